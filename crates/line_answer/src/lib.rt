@@ -15,4 +15,5 @@ mod serving;
 
 pub use answering::AnsweringSilo;
 pub use line_protocol::{Input, LineFault, Output};
+pub use lines::answer_line;
 pub use runner::{ANSWERED_LIMIT, answer_lines};

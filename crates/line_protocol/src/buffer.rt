@@ -14,9 +14,6 @@ use memchr::memchr;
 use std::alloc::{AllocError, Global};
 use std::io::Read;
 
-/// Bytes that are read at once.
-const CAPACITY: usize = 65536;
-
 /// A buffer: `bytes[start..end]` is read ahead and not yet taken. The reader itself is passed to each call.
 #[derive(Drop)]
 pub(crate) struct Buffer {
@@ -39,15 +36,17 @@ pub(crate) enum Place {
 impl Buffer {
     ghost use Rattle.line_protocol.specs.inside.Buffers.{IsInside, ahead_in, left_in};
 
-    /// Nothing is read yet. Takes 65,536 bytes.
-    pub(crate) fn new(alloc: Global) -> Result<Buffer, AllocError>
+    /// Nothing is read yet. Takes so many bytes, which are read at once.
+    pub(crate) fn with_capacity(alloc: Global, capacity: usize) -> Result<Buffer, AllocError>
+        requires { 0 < capacity }
+        ensures room { IfOk result (λ buffer. vec_len buffer.bytes ≡ capacity) }
         ensures start { IfOk result (λ buffer. buffer.start ≡ 0) }
         ensures end { IfOk result (λ buffer. buffer.end ≡ 0) }
         ensures made { IfOk result (λ buffer. buffer.calls.made ≡ 0) }
         ensures failed { IfOk result (λ buffer. buffer.calls.failed ≡ false) }
     {
-        let mut bytes = Vec::with_capacity(alloc, CAPACITY)?;
-        bytes.resize(CAPACITY, 0)?;
+        let mut bytes = Vec::with_capacity(alloc, capacity)?;
+        bytes.resize(capacity, 0)?;
         Ok(Buffer {
             bytes,
             start: 0,

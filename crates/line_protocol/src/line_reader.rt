@@ -1,6 +1,6 @@
 //! The lines of an input, one by one.
 
-ghost use Rattle.std.specs.Prelude.{◌≡◌, ◌≢◌, List, ℕ, [], Ok, Option, IfErr, IfOk, OnErr, OnOk, true, false};
+ghost use Rattle.std.specs.Prelude.{◌≡◌, ◌≢◌, ◌<◌, List, ℕ, [], Ok, Option, IfErr, IfOk, OnErr, OnOk, true, false};
 ghost use Rattle.std.specs.Io.KnownBytes.{Keeps, IsAtEnd};
 ghost use Rattle.line_protocol.specs.Calls.{HasCause, HasNothingAhead, StopsReading};
 ghost use Rattle.line_protocol.specs.Reading.{IsFresh, TakesCut, TakesPart, left_of};
@@ -11,6 +11,9 @@ use crate::streams::Output;
 use std::alloc::{AllocError, Global};
 use std::io::{Read, Write};
 use std::marker::Model;
+
+/// Bytes that are read at once.
+const CAPACITY: usize = 65536;
 
 /// Reads the lines of an input: what it has read ahead and not taken, the line that was taken last, and how many calls of
 /// the reader were made. The reader itself is passed to each call.
@@ -44,8 +47,18 @@ impl LineReader {
         ensures made { IfOk result (λ lines. lines.calls.made ≡ 0) }
         ensures failed { IfOk result (λ lines. lines.calls.failed ≡ false) }
     {
+        LineReader::with_capacity(alloc, CAPACITY)
+    }
+
+    /// The same, with a buffer of so many bytes, at least one, which are read at once.
+    pub fn with_capacity(alloc: Global, bytes: usize) -> Result<LineReader, AllocError>
+        requires { 0 < bytes }
+        ensures fresh { IfOk result (λ lines. IsFresh lines) }
+        ensures made { IfOk result (λ lines. lines.calls.made ≡ 0) }
+        ensures failed { IfOk result (λ lines. lines.calls.failed ≡ false) }
+    {
         Ok(LineReader {
-            buffer: Buffer::new(alloc)?,
+            buffer: Buffer::with_capacity(alloc, bytes)?,
             place: Place::Moved,
             moved: Vec::new(alloc),
         })
@@ -71,8 +84,8 @@ impl LineReader {
         self.buffer.fill(reader)
     }
 
-    /// Takes the next line if all of it is read ahead, and says whether it is.
-    fn take_whole(&mut self) -> bool
+    /// Takes the next line if all of it is read ahead, and says whether it is. Nothing is read.
+    pub fn take_whole(&mut self) -> bool
         ensures some { result ≡ true → (rest : Option (List ℕ)) → TakesCut (left_of self.old rest) (left_of self.new rest) self.new.line }
         ensures none { result ≡ false → self.new ≡ self.old }
     {
@@ -99,8 +112,12 @@ impl LineReader {
     }
 
     /// Takes the next line, where it lies if it can be; `false` at the end. After an `Err` a part of the
-    /// line may have been taken.
-    pub(crate) fn next_line<R: Read>(&mut self, reader: &mut R) -> Result<bool, LineFault>
+    /// line may have been taken. Of a line above 65,536 bytes at least the first 65,537 are kept.
+    ///
+    /// # Errors
+    ///
+    /// Those of `fill`, and `Memory` if memory was refused.
+    pub fn next_line<R: Read>(&mut self, reader: &mut R) -> Result<bool, LineFault>
         ensures line { result ≡ Ok true → TakesCut (left_of self.old (R.remaining reader.old))
             (left_of self.new (R.remaining reader.new)) self.new.line }
         ensures kept { result ≡ Ok false → Keeps (left_of self.old (R.remaining reader.old)) (left_of self.new (R.remaining reader.new)) }

@@ -1,6 +1,6 @@
 //! An input and an output, each with what is noted of its calls.
 
-ghost use Rattle.std.specs.Prelude.{◌≡◌, false, true, Err, IfOk, OnErr, OnOk};
+ghost use Rattle.std.specs.Prelude.{◌≡◌, ◌<◌, false, true, Err, IfOk, OnErr, OnOk};
 ghost use Rattle.std.specs.Io.KnownBytes.{Appends, Keeps};
 ghost use Rattle.line_protocol.specs.LineRuns.{WrittenInPart};
 ghost use Rattle.line_protocol.specs.Reading.{IsFresh};
@@ -34,6 +34,17 @@ impl<R: Read + Drop> Input<R> {
         ensures failed { IfOk result (λ input. input.lines.calls.failed ≡ false) }
     {
         let lines = LineReader::new(alloc)?;
+        Ok(Input { lines, reader })
+    }
+
+    /// The same, with a buffer of so many bytes, at least one: a read brings at most so many.
+    pub fn with_capacity(alloc: Global, reader: R, bytes: usize) -> Result<Input<R>, AllocError>
+        requires { 0 < bytes }
+        ensures reader { IfOk result (λ input. input.reader ≡ reader) }
+        ensures fresh { IfOk result (λ input. IsFresh input.lines) }
+        ensures failed { IfOk result (λ input. input.lines.calls.failed ≡ false) }
+    {
+        let lines = LineReader::with_capacity(alloc, bytes)?;
         Ok(Input { lines, reader })
     }
 }

@@ -1,9 +1,66 @@
 -- Acts that are known, and are added to.
-use Rattle.std.proofs.Common.{◌≡◌, List, ◌++◌, subst, ℕ, Option, Some}
-use Rattle.log_host.specs.Acts.{Act, Adds, AddsPart}
+use Rattle.std.proofs.Common.{◌≡◌, ◌∙◌, List, [], ◌∷◌, ◌++◌, append_assoc, append-nil, arith, refl, sym, ap, subst, take_all, length, ℕ, Option, Some, Result, Ok, Err, OnErr, inl, inr}
+use Rattle.std.specs.Prelude.{take, drop}
+use Rattle.std.specs.Io.KnownBytes.{Appends, Keeps}
+use Rattle.std.proofs.KnownBytes.{Appends-kept, Appends-nil}
+use Rattle.std.proofs.lemmas.List.{take-append-drop}
+use Rattle.line_protocol.specs.LineRuns.{WrittenInPart}
+use Rattle.log_host.specs.Acts.{Act, Adds, AddsPart, TellsPart, told}
 
 pub known : (old new : Option (List Act)) (acts more : List Act) → old ≡ Some acts → Adds old new more → new ≡ Some (acts ++ more)
 known old new acts more is adds = subst (λ o. Adds o new more) is adds
 
 pub known_part : (old new : Option (List Act)) (acts : List Act) (act : List ℕ → Act) (bytes : List ℕ) → old ≡ Some acts → AddsPart old new act bytes → AddsPart (Some acts) new act bytes
 known_part old new acts act bytes is adds = subst (λ o. AddsPart o new act bytes) is adds
+
+pub known_telling : (old new : Option (List Act)) (acts : List Act) (before after : Option (List ℕ)) (bytes : List ℕ) → old ≡ Some acts
+    → TellsPart old new before after bytes → TellsPart (Some acts) new before after bytes
+known_telling old new acts before after bytes is adds = subst (λ o. TellsPart o new before after bytes) is adds
+
+-- nothing was written, which is a part
+pub none_written : (before after : Option (List ℕ)) (bytes : List ℕ) → Keeps before after → WrittenInPart before after bytes
+none_written before after bytes kept = record {
+  front = [];
+  back = bytes;
+  parts = refl;
+  written = Appends-kept before before after [] (Appends-nil before) kept;
+}
+
+-- a part of a part is a part
+part_of_part : (before after : Option (List ℕ)) (k : ℕ) (bytes : List ℕ) → WrittenInPart before after (take k bytes) → WrittenInPart before after bytes
+part_of_part before after k bytes part = record {
+  front = part.front;
+  back = part.back ++ drop k bytes;
+  parts = sym (take-append-drop k bytes) ∙ ap (λ l. l ++ drop k bytes) part.parts ∙ append_assoc part.front part.back (drop k bytes);
+  written = part.written;
+}
+
+-- what was told in part was written in part
+pub told_part : (old new : Option (List Act)) (before after : Option (List ℕ)) (bytes : List ℕ) → TellsPart old new before after bytes → WrittenInPart before after bytes
+told_part old new before after bytes (inl none) = none_written before after bytes none.1
+told_part old new before after bytes (inr part) = part_of_part before after part.0 bytes part.2
+
+-- all of it was written, and then what was written went out or not
+pub all_written : (before during after : Option (List ℕ)) (bytes : List ℕ) → Appends before during bytes → Keeps during after → WrittenInPart before after bytes
+all_written before during after bytes wrote kept = record {
+  front = bytes;
+  back = [];
+  parts = sym (append-nil bytes);
+  written = Appends-kept before during after bytes wrote kept;
+}
+
+-- all of it was to be told, and a part was written
+pub tells_whole : (old new : List Act) (before after : Option (List ℕ)) (bytes : List ℕ) → new ≡ old ++ told bytes ∷ []
+    → WrittenInPart before after bytes → TellsPart (Some old) (Some new) before after bytes
+tells_whole old new before after bytes is part =
+    let all : take (length bytes) bytes ≡ bytes = take_all (length bytes) bytes (omega arith) in
+    inr (
+      length bytes,
+      ap Some is ∙ ap (λ l. Some (old ++ told l ∷ [])) (sym all),
+      subst (λ l. WrittenInPart before after l) (sym all) part,
+    )
+
+-- what holds anyway holds at an error
+pub on_err : {T E : Type 0} (r : Result T E) (P : Type 0) → P → OnErr r P
+on_err (Ok x) P p = tt
+on_err (Err e) P p = p

@@ -11,8 +11,9 @@ use Rattle.log_text.proofs.Passes.{log_append}
 use Rattle.log_text.proofs.Prefixes.{prefixes_read}
 use Rattle.log_text.proofs.Spelled.{spells_plain}
 use Rattle.log_text.proofs.Written.{batch_on, written_reads, written_whole}
-use Rattle.log_host.specs.Acts.{Act, Adds, AddsPart, Always, Held, does, held_from, synced, told, wrote}
-use Rattle.log_host.specs.Lasting.{Grows, IsAsked, IsSettled, Lasts, LastsFrom, Log, SettlesFrom, answered}
+use Rattle.log_host.proofs.Known.{known}
+use Rattle.log_host.specs.Acts.{Act, Adds, AddsPart, Always, Held, TellsPart, does, held_from, synced, told, wrote}
+use Rattle.log_host.specs.Lasting.{Grows, IsAsked, IsSettled, Lasts, LastsFrom, Log, SettlesFrom, answered, lines_in}
 
 -- ---- lists
 
@@ -29,7 +30,7 @@ pub held_on : (h : Held) (old more : List Act) → held_from h (old ++ more) ≡
 held_on h [] more = refl
 held_on h (a ∷ old) more = held_on (does h a) old more
 
-lines_append : (batches others : List Batch) → lines_of (batches ++ others) ≡ lines_of batches ++ lines_of others
+pub lines_append : (batches others : List Batch) → lines_of (batches ++ others) ≡ lines_of batches ++ lines_of others
 lines_append [] others = refl
 lines_append (batch ∷ batches) others = ap (λ l. batch.lines ++ l) (lines_append batches others) ∙ sym (append_assoc batch.lines (lines_of batches) (lines_of others))
 
@@ -58,6 +59,11 @@ lasts_by log grows h told_of left may =
     prefix_trans h.said (answered log h.safe) (answered log left) told_of
     (subst (λ l. IsPrefixOf (answered log h.safe) (answered log l)) may.1 (answered_grows log grows h.safe may.0))
 
+-- a settled log lasts
+pub settled_lasts : (log : Log) → Grows log.answers → (h : Held) (sum : ℕ) → IsSettled log h sum → Lasts log h
+settled_lasts log grows h sum settled =
+    lasts_by log grows h ([], append-nil h.said ∙ settled.said ∙ ap (answered log) (sym settled.safe))
+
 -- ---- a batch that is asked of a settled log
 
 module _ (log : Log) (name : List ℕ) (h : Held) (sum : ℕ) (batch text : List ℕ) (a : IsAsked log name h sum batch text) (all : ℕ) where
@@ -82,16 +88,17 @@ module _ (log : Log) (name : List ℕ) (h : Held) (sum : ℕ) (batch text : List
       ap (recovered own_sums log.name log.first) a.settled.file
       ∙ written_whole own_sums log.name spells_plain a.plain log.first a.settled.batches a.settled.are
 
-  -- what the log answers with it
-  answers_then : answered log (h.file ++ bytes) ≡ h.said ++ text
-  answers_then =
+  -- the lines of the log with it, and what they answer
+  lines_then : lines_in log (h.file ++ bytes) ≡ lines_in log h.file ++ a.lines
+  lines_then =
       let b : Batch = record { lines = a.lines; told = spelled all } in
-      ap log.answers
-      (ap lines_of read_then
+      ap lines_of read_then
       ∙ lines_append a.settled.batches (b ∷ [])
       ∙ ap (λ l. lines_of a.settled.batches ++ l) (append-nil a.lines)
-      ∙ ap (λ bs. lines_of bs ++ a.lines) (sym read_now))
-      ∙ a.answer
+      ∙ ap (λ bs. lines_of bs ++ a.lines) (sym read_now)
+
+  answers_then : answered log (h.file ++ bytes) ≡ h.said ++ text
+  answers_then = ap log.answers lines_then ∙ a.answer
 
   was_told : IsPrefixOf h.said (answered log h.safe)
   was_told = ([], append-nil h.said ∙ a.settled.said ∙ ap (answered log) (sym a.settled.safe))
@@ -149,10 +156,11 @@ module _ (log : Log) (name : List ℕ) (h : Held) (sum : ℕ) (batch text : List
   two : (old : List Act) (x y : Act) (more : List Act) → ((old ++ x ∷ []) ++ y ∷ []) ++ more ≡ old ++ x ∷ y ∷ more
   two old x y more = append_assoc (old ++ x ∷ []) (y ∷ []) more ∙ append_assoc old (x ∷ []) (y ∷ more)
 
-  pub partly_told : (old : List Act) (new : Option (List Act)) → AddsPart (Some ((old ++ wrote bytes ∷ []) ++ synced ∷ [])) new told text → LastsFrom log h old new
-  partly_told old new (inl none) =
-      record { more = wrote bytes ∷ synced ∷ []; acts = none ∙ ap Some (two old (wrote bytes) synced []); always = in_sync }
-  partly_told old new (inr part) =
+  pub partly_told : (old : List Act) (new : Option (List Act)) (before after : Option (List ℕ))
+      → TellsPart (Some ((old ++ wrote bytes ∷ []) ++ synced ∷ [])) new before after text → LastsFrom log h old new
+  partly_told old new before after (inl none) =
+      record { more = wrote bytes ∷ synced ∷ []; acts = none.0 ∙ ap Some (two old (wrote bytes) synced []); always = in_sync }
+  partly_told old new before after (inr part) =
       record {
         more = wrote bytes ∷ synced ∷ told (take part.0 text) ∷ [];
         acts = part.1 ∙ ap Some (two old (wrote bytes) synced (told (take part.0 text) ∷ []));
@@ -183,18 +191,17 @@ module _ (log : Log) (name : List ℕ) (h : Held) (sum : ℕ) (batch text : List
         said = sym answers_then;
       }
 
-  pub settles : (start : Held) (old : List Act) (new : Option (List Act)) → h ≡ held_from start old
+  pub settles : (old : List Act) (new : Option (List Act))
       → new ≡ Some (((old ++ wrote bytes ∷ []) ++ synced ∷ []) ++ told text ∷ [])
-      → SettlesFrom log start new (sum_of own_sums log.name sum (record { lines = a.lines; told = spelled all }))
-  settles start old new from is =
-      let more = wrote bytes ∷ synced ∷ told text ∷ [] in
-      record {
-        acts = old ++ more;
-        are = is ∙ ap Some (two old (wrote bytes) synced (told text ∷ []));
-        settled =
-            subst (λ x. IsSettled log x (sum_of own_sums log.name sum (record { lines = a.lines; told = spelled all })))
-            (ap (λ x. held_from x more) from ∙ sym (held_on start old more)) settled_then;
-      }
+      → SettlesFrom log h sum a.lines old new (sum_of own_sums log.name sum (record { lines = a.lines; told = spelled all })) all
+  settles old new is = record {
+    more = wrote bytes ∷ synced ∷ told text ∷ [];
+    acts = is ∙ ap Some (two old (wrote bytes) synced (told text ∷ []));
+    always = in_tell text (all_of text);
+    settled = settled_then;
+    file = refl;
+    lines = lines_then;
+  }
 
   -- ---- what the writer made
 
@@ -210,3 +217,11 @@ module _ (log : Log) (name : List ℕ) (h : Held) (sum : ℕ) (batch text : List
       is
       ∙ ap (λ l. sum_behind own_sums name sum l (spelled all)) a.bytes
       ∙ ap (λ n. sum_behind own_sums n sum (lines_text a.lines) (spelled all)) (sym a.same)
+
+  -- the acts behind the sync, if these bytes were written
+  pub put_and_synced : (start mid new : Option (List Act)) (acts : List Act) (put : List ℕ) → start ≡ Some acts
+      → put ≡ batch ++ ended (mark_behind own_sums name sum batch (spelled all))
+      → Adds start mid (wrote put ∷ []) → Adds mid new (synced ∷ []) → new ≡ Some ((acts ++ wrote bytes ∷ []) ++ synced ∷ [])
+  put_and_synced start mid new acts put is made first second =
+      known mid new (acts ++ wrote bytes ∷ []) (synced ∷ [])
+      (known start mid acts (wrote put ∷ []) is first ∙ ap (λ l. Some (acts ++ wrote l ∷ [])) (written_bytes put made)) second

@@ -1,8 +1,11 @@
 -- What a host was asked to do with a log, and what it holds then.
 use Rattle.std.specs.Prelude.{◌≡◌, ◌⊎◌, ℕ, List, [], ◌∷◌, ◌++◌, take, Option, Some, None}
+use Rattle.std.specs.Io.KnownBytes.{Keeps}
 use Rattle.log_text.specs.Lines.{IsPrefixOf}
+use Rattle.line_protocol.specs.LineRuns.{WrittenInPart}
 
--- Bytes were written at the log's end; all of the log was brought to the disk; bytes were told to whoever asked.
+-- Bytes were written at the log's end; all of the log was brought to the disk; bytes were told to whoever asked. If the call that tells
+-- fails, a part of them was.
 pub data Act : Type 0 where
   wrote : List ℕ → Act
   synced : Act
@@ -44,3 +47,9 @@ Adds (Some old) new more = new ≡ Some (old ++ more)
 -- A call with these bytes failed: it did nothing, or a part.
 abbrev pub AddsPart : Option (List Act) → Option (List Act) → (List ℕ → Act) → List ℕ → Type 0
 AddsPart old new act bytes = Adds old new [] ⊎ ((k : ℕ) × Adds old new (act (take k bytes) ∷ []))
+
+-- Telling these bytes failed: nothing was done, or the first of them were told, of which at most so many came to the output.
+abbrev pub TellsPart : Option (List Act) → Option (List Act) → Option (List ℕ) → Option (List ℕ) → List ℕ → Type 0
+TellsPart old new before after bytes =
+    (Adds old new [] × Keeps before after)
+    ⊎ ((k : ℕ) × Adds old new (told (take k bytes) ∷ []) × WrittenInPart before after (take k bytes))

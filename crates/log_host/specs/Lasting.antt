@@ -1,8 +1,8 @@
 -- That what was told is what the log answers, at each moment.
 use Rattle.std.specs.Prelude.{◌≡◌, ℕ, List, ◌++◌, Option, Some}
 use Rattle.log_text.specs.Lines.{ArePlain, HasNoBreak, IsPrefixOf}
-use Rattle.log_text.specs.Sums.{own_sums}
-use Rattle.log_text.specs.Batches.{AreBatches, Batch, last_sum, lines_text, log_text}
+use Rattle.log_text.specs.Sums.{own_sums, spelled}
+use Rattle.log_text.specs.Batches.{AreBatches, Batch, batch_text, last_sum, lines_text, log_text}
 use Rattle.log_text.specs.Reading.{lines_of, recovered}
 use Rattle.log_host.specs.Acts.{Act, Always, Held, MayLeave, held_from}
 
@@ -48,14 +48,19 @@ pub record IsAsked (log : Log) (name : List ℕ) (h : Held) (sum : ℕ) (batch t
   pub bytes : batch ≡ lines_text lines
   pub answer : log.answers (lines_in log h.file ++ lines) ≡ h.said ++ text
 
--- The acts since then are known, and it lasts at each moment between.
+-- The acts since then are known, and from what was held then it lasts at each moment between.
 pub record LastsFrom (log : Log) (h : Held) (old : List Act) (new : Option (List Act)) : Type 0 where
   pub more : List Act
   pub acts : new ≡ Some (old ++ more)
   pub always : Always (Lasts log) h more
 
--- The log goes on from there, and all that it answers was told.
-pub record SettlesFrom (log : Log) (start : Held) (new : Option (List Act)) (sum : ℕ) : Type 0 where
-  pub acts : List Act
-  pub are : new ≡ Some acts
-  pub settled : IsSettled log (held_from start acts) sum
+-- It lasts at each moment since, and the batch of these lines, with the sum of all that was told, stands at the end of the log, which is
+-- settled again.
+pub record SettlesFrom (log : Log) (h : Held) (sum : ℕ) (asked : List (List ℕ)) (old : List Act) (new : Option (List Act))
+    (next told : ℕ) : Type 0 where
+  pub more : List Act
+  pub acts : new ≡ Some (old ++ more)
+  pub always : Always (Lasts log) h more
+  pub settled : IsSettled log (held_from h more) next
+  pub file : (held_from h more).file ≡ h.file ++ batch_text own_sums log.name sum (record { lines = asked; told = spelled told })
+  pub lines : lines_in log (held_from h more).file ≡ lines_in log h.file ++ asked

@@ -1,5 +1,5 @@
 -- Laws of logs that were left.
-use Rattle.std.specs.Prelude.{ℕ, List, [], ◌∷◌, Option, Some}
+use Rattle.std.specs.Prelude.{ℕ, List, [], ◌∷◌, ◌++◌, Option}
 use Rattle.log_text.specs.Lines.{HasNoBreak, IsPrefixOf}
 use Rattle.log_text.specs.Sums.{own_sums}
 use Rattle.log_text.specs.Batches.{last_sum, log_text}
@@ -48,8 +48,8 @@ AllTold log left (life ∷ lives) end = IsPrefixOf (end_of log left life).said (
 abbrev pub LivesLast : Type 0
 LivesLast = (log : Log) (left : List ℕ) (lives : List Life) → AreLives log left lives → AllTold log left lives (left_by left lives)
 
--- What lasts from some acts on to others, and from these on, lasts from the first on.
+-- What lasts up to some acts, and from what is held then on, lasts from the first on.
 abbrev pub LastsOn : Type 0
-LastsOn = (log : Log) (start : Held) (old mid : List Act) (new : Option (List Act))
-    → LastsFrom log (held_from start old) old (Some mid) → LastsFrom log (held_from start mid) mid new
-    → LastsFrom log (held_from start old) old new
+LastsOn = (log : Log) (h : Held) (old more : List Act) (new : Option (List Act))
+    → Always (Lasts log) h more → LastsFrom log (held_from h more) (old ++ more) new
+    → LastsFrom log h old new

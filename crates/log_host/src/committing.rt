@@ -1,13 +1,18 @@
 //! A batch that is kept, and then told.
 
-ghost use Rattle.std.specs.Prelude.{◌≡◌, List, [], Some, IfOk, OnErr, OnOk};
-ghost use Rattle.log_text.specs.Sums.{after};
-ghost use Rattle.log_host.specs.Acts.{Act, held_from};
+ghost use Rattle.std.specs.Prelude.{◌≡◌, List, [], Some, true, IfOk, OnErr, OnOk};
+ghost use Rattle.std.specs.Io.KnownBytes.{Appends};
+ghost use Rattle.line_protocol.specs.LineRuns.{WrittenInPart};
+ghost use Rattle.log_text.specs.Batches.{sum_behind};
+ghost use Rattle.log_text.specs.Sums.{after, own_sums, spelled};
+ghost use Rattle.log_host.specs.Acts.{Act, Held};
 ghost use Rattle.log_host.specs.Lasting.{IsAsked, LastsFrom, Log, SettlesFrom};
 
 use crate::host::{HostFault, LogHost};
+use crate::place::LogPlace;
+use line_protocol::Output;
 use log_text::{push_mark, sum_after};
-use std::alloc::AllocError;
+use std::io::Write;
 
 /// Why a batch wasn't told whole.
 #[derive(Clone, Copy, Debug, PartialEq, Eq)]
@@ -29,49 +34,50 @@ impl From<HostFault> for CommitFault {
     }
 }
 
-/// The sums behind a batch that was told: that of the log, and that of all that was told.
-#[derive(Clone, Copy, Debug, PartialEq, Eq)]
-pub struct Committed {
-    pub sum: u64,
-    pub told: u64,
-}
-
 /// Closes the batch of lines that were asked, writes it at the log's end, has it on the disk, and tells what it is answered.
-/// Then the batch is empty. `sum` and `told` are the sums before it.
+/// Then the batch is empty, and the answer is the place behind it.
 ///
 /// # Errors
 ///
-/// `Memory` if memory was refused, and then nothing was done; `Host` if a call of the host failed.
-pub fn commit<H: LogHost>(
+/// `Memory` if memory was refused, and then nothing was done; `Host` if a call of the host failed, which the host notes: pass
+/// one that notes none.
+pub fn commit<H: LogHost, W: Write>(
     host: &mut H,
-    name: &[u8],
-    sum: u64,
-    told: u64,
+    output: &mut Output<W>,
+    place: LogPlace,
     batch: &mut Vec<u8>,
     text: &[u8],
-) -> Result<Committed, CommitFault>
-    ensures start { H.start host.new ≡ H.start host.old }
+) -> Result<LogPlace, CommitFault>
+    ensures begun { H.begun host.new ≡ H.begun host.old }
 
     // At each moment of the call, whatever a crash leaves, what was told is the beginning of what that log answers.
-    ensures lasts { (log : Log) (acts : List Act) → H.acts host.old ≡ Some acts
-        → IsAsked log name.now (held_from (H.start host.old) acts) sum batch.old.items text.now
-        → LastsFrom log (held_from (H.start host.old) acts) acts (H.acts host.new) }
-    ensures settled { IfOk result (λ next. (log : Log) (acts : List Act) → H.acts host.old ≡ Some acts
-        → IsAsked log name.now (held_from (H.start host.old) acts) sum batch.old.items text.now
-        → SettlesFrom log (H.start host.new) (H.acts host.new) next.sum) }
-    ensures told { IfOk result (λ next. next.told ≡ after told text.now) }
+    ensures lasts { (log : Log) (h : Held) (acts : List Act) → H.acts host.old ≡ Some acts
+        → IsAsked log place.name h place.sum batch.old.items text.now → LastsFrom log h acts (H.acts host.new) }
+    ensures settled { IfOk result (λ next. (log : Log) (h : Held) (acts : List Act) → H.acts host.old ≡ Some acts
+        → (asked : IsAsked log place.name h place.sum batch.old.items text.now)
+        → SettlesFrom log h place.sum asked.lines acts (H.acts host.new) next.sum next.told) }
+    ensures name { IfOk result (λ next. next.name ≡ place.name) }
+    ensures sum { IfOk result (λ next. next.sum ≡ sum_behind own_sums place.name place.sum batch.old.items (spelled next.told)) }
+    ensures told { IfOk result (λ next. next.told ≡ after place.told text.now) }
     ensures empty { OnOk result (batch.new.items ≡ []) }
-    ensures memory { result ≡ Err CommitFault.Memory → (H.acts host.new ≡ H.acts host.old) × (batch.new.items ≡ batch.old.items) }
+    ensures written { OnOk result (Appends (W.contents output.old.writer) (W.contents output.new.writer) text.now) }
+    ensures part { OnErr result (WrittenInPart (W.contents output.old.writer) (W.contents output.new.writer) text.now) }
+    ensures memory { result ≡ Err CommitFault.Memory
+        → (host.new ≡ host.old) × (output.new ≡ output.old) × (batch.new.items ≡ batch.old.items) }
+    ensures failed { result ≡ Err CommitFault.Host → H.failed host.new ≡ true }
+    ensures unfailed { OnOk result (H.failed host.new ≡ H.failed host.old) }
+    ensures output { OnOk result (output.new.calls.failed ≡ output.old.calls.failed) }
 {
-    let all = sum_after(told, text);
-    let Ok(next) = push_mark(batch, name, sum, all) else {
+    let all = sum_after(place.told, text);
+    let Ok(next) = push_mark(batch, &place.name, place.sum, all) else {
         return Err(CommitFault::Memory);
     };
     host.append(batch.as_slice())?;
     host.sync()?;
-    host.tell(text)?;
+    host.tell(output, text)?;
     batch.clear();
-    Ok(Committed {
+    Ok(LogPlace {
+        name: place.name,
         sum: next,
         told: all,
     })

@@ -1,35 +1,107 @@
-//! A host that keeps a log and tells what it is told.
+//! A host that keeps a log and tells what it is told, and one that opens it.
 
-ghost use Rattle.std.specs.Prelude.{◌≡◌, List, [], ◌∷◌, None, OnErr, OnOk, Option};
-ghost use Rattle.log_host.specs.Acts.{Act, Adds, AddsPart, Held, synced, told, wrote};
+ghost use Rattle.std.specs.Prelude.{◌≡◌, ◌≢◌, true, Bool, List, ℕ, [], ◌∷◌, IfErr, IfOk, OnErr, OnOk, Option, option_map};
+ghost use Rattle.std.specs.Io.KnownBytes.{Appends};
+ghost use Rattle.log_host.specs.Acts.{Act, Adds, AddsPart, TellsPart, synced, told, wrote};
+ghost use Rattle.log_host.specs.Files.{Begins, Cuts, Finds, MayBegin, MayCut};
+
+use line_protocol::Output;
+use std::alloc::Global;
+use std::io::Write;
 
 /// A call of the host failed.
 #[derive(Clone, Copy, Debug, PartialEq, Eq)]
 pub struct HostFault;
 
-/// A log, and whoever asked.
+/// A log, and how whoever asked is told.
 pub trait LogHost {
-    /// What it held at first.
-    ghost start: { Self → Held };
+    /// The log's bytes, head and all, when it was opened, begun or cut last; none if there was no log.
+    ghost begun: { Self → Option (List ℕ) };
 
     /// What was done since, if it is known: of files of the system nothing is.
     ghost acts: { Self → Option (List Act) };
 
+    /// Whether a call failed.
+    ghost failed: { Self → Bool };
+
     /// Writes the bytes at the log's end.
     fn append(&mut self, bytes: &[u8]) -> Result<(), HostFault>
-        ensures start { start self.new ≡ start self.old }
+        ensures begun { begun self.new ≡ begun self.old }
         ensures ok { OnOk result (Adds (acts self.old) (acts self.new) (wrote bytes.now ∷ [])) }
-        ensures err { OnErr result (AddsPart (acts self.old) (acts self.new) wrote bytes.now) };
+        ensures err { OnErr result (AddsPart (acts self.old) (acts self.new) wrote bytes.now) }
+        ensures unfailed { OnOk result (failed self.new ≡ failed self.old) }
+        ensures failed { OnErr result (failed self.new ≡ true) };
 
     /// Brings all of the log to the disk.
     fn sync(&mut self) -> Result<(), HostFault>
-        ensures start { start self.new ≡ start self.old }
+        ensures begun { begun self.new ≡ begun self.old }
         ensures ok { OnOk result (Adds (acts self.old) (acts self.new) (synced ∷ [])) }
-        ensures err { OnErr result (Adds (acts self.old) (acts self.new) []) };
+        ensures err { OnErr result (Adds (acts self.old) (acts self.new) []) }
+        ensures unfailed { OnOk result (failed self.new ≡ failed self.old) }
+        ensures failed { OnErr result (failed self.new ≡ true) };
 
-    /// Tells the bytes to whoever asked.
-    fn tell(&mut self, bytes: &[u8]) -> Result<(), HostFault>
-        ensures start { start self.new ≡ start self.old }
+    /// Tells the bytes to whoever asked: writes them to the output, and lets them out.
+    fn tell<W: Write>(&mut self, output: &mut Output<W>, bytes: &[u8]) -> Result<(), HostFault>
+        ensures begun { begun self.new ≡ begun self.old }
         ensures ok { OnOk result (Adds (acts self.old) (acts self.new) (told bytes.now ∷ [])) }
-        ensures err { OnErr result (AddsPart (acts self.old) (acts self.new) told bytes.now) };
+        ensures written { OnOk result (Appends (W.contents output.old.writer) (W.contents output.new.writer) bytes.now) }
+        ensures err { OnErr result (TellsPart (acts self.old) (acts self.new)
+            (W.contents output.old.writer) (W.contents output.new.writer) bytes.now) }
+        ensures unfailed { OnOk result (failed self.new ≡ failed self.old) }
+        ensures output { OnOk result (output.new.calls.failed ≡ output.old.calls.failed) }
+        ensures failed { OnErr result (failed self.new ≡ true) };
+}
+
+/// Why a log wasn't opened.
+#[derive(Clone, Copy, Debug, PartialEq, Eq)]
+pub enum OpenFault {
+    /// Memory was refused.
+    Memory,
+
+    /// Another process has it.
+    InUse,
+
+    /// A call that reads failed.
+    Read,
+
+    /// A call that makes the folder or the lock failed.
+    Write,
+}
+
+/// A log that can be opened, begun and cut. None of this is to be asked of a log to which anything was done since.
+pub trait LogFiles: LogHost {
+    /// Opens the log at the path for this process alone, and gives its bytes, head and all; none if there's no log.
+    ///
+    /// # Errors
+    ///
+    /// Those of `OpenFault`; the log is as it was.
+    fn open(&mut self, alloc: Global, path: &str) -> Result<Option<Vec<u8>>, OpenFault>
+        ensures ok { IfOk result (λ found. Finds (Self.acts self.old) (Self.begun self.old) (Self.acts self.new) (Self.begun self.new)
+            (option_map (λ bytes. bytes.items) found)) }
+        ensures err { OnErr result ((Self.acts self.new ≡ Self.acts self.old) × (Self.begun self.new ≡ Self.begun self.old)) }
+        ensures unfailed { OnOk result (Self.failed self.new ≡ Self.failed self.old) }
+        ensures failed { IfErr result (λ why. why ≢ OpenFault.Memory → why ≢ OpenFault.InUse → Self.failed self.new ≡ true) };
+
+    /// A new log in place of none or of another, which has this head and nothing behind it, on the disk.
+    ///
+    /// # Errors
+    ///
+    /// A call failed: the log is as it was, or the new one.
+    fn begin(&mut self, head: &[u8]) -> Result<(), HostFault>
+        ensures ok { OnOk result (Begins (Self.acts self.old) (Self.acts self.new) (Self.begun self.new) head.now) }
+        ensures err { OnErr result (MayBegin (Self.acts self.old) (Self.begun self.old) (Self.acts self.new) (Self.begun self.new)
+            head.now) }
+        ensures unfailed { OnOk result (Self.failed self.new ≡ Self.failed self.old) }
+        ensures failed { OnErr result (Self.failed self.new ≡ true) };
+
+    /// Cuts the log to its first bytes, so many with its head, on the disk.
+    ///
+    /// # Errors
+    ///
+    /// A call failed: the log is as it was, or cut.
+    fn keep(&mut self, length: usize) -> Result<(), HostFault>
+        ensures ok { OnOk result (Cuts (Self.acts self.old) (Self.begun self.old) (Self.acts self.new) (Self.begun self.new) length) }
+        ensures err { OnErr result (MayCut (Self.acts self.old) (Self.begun self.old) (Self.acts self.new) (Self.begun self.new) length) }
+        ensures unfailed { OnOk result (Self.failed self.new ≡ Self.failed self.old) }
+        ensures failed { OnErr result (Self.failed self.new ≡ true) };
 }

@@ -9,7 +9,9 @@ mod committing;
 mod host;
 pub mod laws;
 mod memory;
+mod place;
 
-pub use committing::{CommitFault, Committed, commit};
-pub use host::{HostFault, LogHost};
+pub use committing::{CommitFault, commit};
+pub use host::{HostFault, LogFiles, LogHost, OpenFault};
 pub use memory::{Did, Fuse, MemoryLog};
+pub use place::LogPlace;

@@ -1,10 +1,15 @@
 //! A log in memory, for trials of what fails.
 
-ghost use Rattle.std.specs.Prelude.{◌≡◌, [], ◌∷◌, ◌++◌, Some, IfOk, OnErr, OnOk};
-ghost use Rattle.log_host.specs.Memory.{acts_of};
+ghost use Rattle.std.specs.Prelude.{◌≡◌, ◌⊎◌, true, false, [], ◌∷◌, ◌++◌, Some, IfOk, OnErr, OnOk, option_map};
+ghost use Rattle.std.specs.Io.KnownBytes.{Appends};
+ghost use Rattle.line_protocol.specs.LineRuns.{WrittenInPart};
+ghost use Rattle.log_host.specs.Acts.{Adds, AddsPart, TellsPart, synced, told, wrote};
+ghost use Rattle.log_host.specs.Memory.{acts_of, burns, later};
 
-use crate::host::{HostFault, LogHost};
+use crate::host::{HostFault, LogFiles, LogHost, OpenFault};
+use line_protocol::{LineFault, Output};
 use std::alloc::Global;
+use std::io::Write;
 
 /// What a log in memory did.
 #[derive(Drop)]
@@ -23,7 +28,10 @@ pub struct Fuse {
 
 impl Fuse {
     /// Whether this call fails.
-    fn burns(&mut self) -> bool {
+    fn burns(&mut self) -> bool
+        ensures burns { result ≡ burns self.old }
+        ensures later { self.new ≡ later self.old }
+    {
         if self.calls == 0 {
             return false;
         }
@@ -32,80 +40,217 @@ impl Fuse {
     }
 }
 
-/// A log that begins with some bytes on the disk, and notes what it is asked.
+/// A log that begins with some bytes on the disk, or isn't there, and notes what it is asked. Of its calls one fails where the
+/// fuse burns; and one where memory is refused, which is noted too.
 #[derive(Drop)]
 pub struct MemoryLog {
     pub alloc: Global,
-    pub begun: Vec<u8>,
+    pub begun: Option<Vec<u8>>,
     pub did: Vec<Did>,
     pub fuse: Fuse,
+    pub failed: bool,
+    pub refused: bool,
 }
 
 impl MemoryLog {
     /// Holds the bytes, and has done nothing.
-    pub fn new(alloc: Global, begun: Vec<u8>, fuse: Fuse) -> MemoryLog
+    pub fn new(alloc: Global, begun: Option<Vec<u8>>, fuse: Fuse) -> MemoryLog
         ensures begun { result.begun ≡ begun }
         ensures did { result.did.items ≡ [] }
+        ensures fuse { result.fuse ≡ fuse }
+        ensures failed { (result.failed ≡ false) × (result.refused ≡ false) }
     {
         MemoryLog {
             alloc,
             begun,
             did: Vec::new(alloc),
             fuse,
+            failed: false,
+            refused: false,
         }
     }
-}
 
-/// A copy of the bytes.
-fn copied(alloc: Global, bytes: &[u8]) -> Result<Vec<u8>, HostFault>
-    ensures { IfOk result (λ copy. copy.items ≡ bytes.now) }
-{
-    match Vec::from_slice(alloc, bytes) {
-        Ok(copy) => Ok(copy),
-        Err(_) => Err(HostFault),
+    /// Notes that a call failed.
+    fn fail(&mut self) -> HostFault
+        ensures { self.new ≡ record self.old { failed = true } }
+    {
+        self.failed = true;
+        HostFault
+    }
+
+    /// Notes what was done.
+    fn note(&mut self, did: Did) -> Result<(), HostFault>
+        ensures begun { self.new.begun ≡ self.old.begun }
+        ensures fuse { self.new.fuse ≡ self.old.fuse }
+        ensures ok { OnOk result (self.new.did.items ≡ self.old.did.items ++ did ∷ []) }
+        ensures unfailed { OnOk result ((self.new.failed ≡ self.old.failed) × (self.new.refused ≡ self.old.refused)) }
+        ensures err { OnErr result (self.new.did.items ≡ self.old.did.items) }
+        ensures failed { OnErr result ((self.new.failed ≡ true) × (self.new.refused ≡ true)) }
+    {
+        if self.did.push(did).is_err() {
+            self.refused = true;
+            return Err(self.fail());
+        }
+        Ok(())
+    }
+
+    /// A copy of the bytes.
+    fn copied(&mut self, bytes: &[u8]) -> Result<Vec<u8>, HostFault>
+        ensures ok { IfOk result (λ copy. (copy.items ≡ bytes.now) × (self.new ≡ self.old)) }
+        ensures err { OnErr result (self.new ≡ record self.old { failed = true; refused = true }) }
+    {
+        match Vec::from_slice(self.alloc, bytes) {
+            Ok(copy) => Ok(copy),
+            Err(_) => {
+                self.refused = true;
+                Err(self.fail())
+            }
+        }
+    }
+
+    /// Notes that the bytes were written.
+    fn wrote(&mut self, bytes: &[u8]) -> Result<(), HostFault>
+        ensures begun { self.new.begun ≡ self.old.begun }
+        ensures fuse { self.new.fuse ≡ self.old.fuse }
+        ensures ok { OnOk result (acts_of self.new.did.items ≡ acts_of self.old.did.items ++ wrote bytes.now ∷ []) }
+        ensures unfailed { OnOk result ((self.new.failed ≡ self.old.failed) × (self.new.refused ≡ self.old.refused)) }
+        ensures err { OnErr result (self.new.did.items ≡ self.old.did.items) }
+        ensures failed { OnErr result ((self.new.failed ≡ true) × (self.new.refused ≡ true)) }
+    {
+        let copy = self.copied(bytes)?;
+        self.note(Did::Wrote(copy))
+    }
+
+    /// Notes that the bytes were told.
+    fn told(&mut self, bytes: &[u8]) -> Result<(), HostFault>
+        ensures begun { self.new.begun ≡ self.old.begun }
+        ensures fuse { self.new.fuse ≡ self.old.fuse }
+        ensures ok { OnOk result (acts_of self.new.did.items ≡ acts_of self.old.did.items ++ told bytes.now ∷ []) }
+        ensures unfailed { OnOk result ((self.new.failed ≡ self.old.failed) × (self.new.refused ≡ self.old.refused)) }
+        ensures err { OnErr result (self.new.did.items ≡ self.old.did.items) }
+        ensures failed { OnErr result ((self.new.failed ≡ true) × (self.new.refused ≡ true)) }
+    {
+        let copy = self.copied(bytes)?;
+        self.note(Did::Told(copy))
     }
 }
 
-/// Notes what was done.
-fn note(dids: &mut Vec<Did>, did: Did) -> Result<(), HostFault>
-    ensures ok { OnOk result (dids.new.items ≡ dids.old.items ++ did ∷ []) }
-    ensures err { OnErr result (dids.new.items ≡ dids.old.items) }
+/// Writes all of the bytes to the output, and lets them out.
+#[tactic(auto, using(crate::proofs::Known::all_written))]
+fn write_out<W: Write>(output: &mut Output<W>, bytes: &[u8]) -> Result<(), LineFault>
+    ensures ok { OnOk result (Appends (W.contents output.old.writer) (W.contents output.new.writer) bytes.now) }
+    ensures err { OnErr result (WrittenInPart (W.contents output.old.writer) (W.contents output.new.writer) bytes.now) }
+    ensures unfailed { OnOk result (output.new.calls.failed ≡ output.old.calls.failed) }
+    ensures failed { OnErr result (output.new.calls.failed ≡ true) }
 {
-    match dids.push(did) {
-        Ok(()) => Ok(()),
-        Err(_) => Err(HostFault),
-    }
+    output.write_whole(bytes)?;
+    output.flush()
 }
 
 impl LogHost for MemoryLog {
-    ghost start = { λ log. record { file = log.begun.items; safe = log.begun.items; said = [] } };
+    ghost begun = { λ log. option_map (λ bytes. bytes.items) log.begun };
 
     ghost acts = { λ log. Some (acts_of log.did.items) };
 
-    fn append(&mut self, bytes: &[u8]) -> Result<(), HostFault> {
+    ghost failed = { λ log. log.failed };
+
+    fn append(&mut self, bytes: &[u8]) -> Result<(), HostFault>
+        ensures begun { self.new.begun ≡ self.old.begun }
+        ensures ok { OnOk result (Adds (Some (acts_of self.old.did.items)) (Some (acts_of self.new.did.items)) (wrote bytes.now ∷ [])) }
+        ensures err { OnErr result (AddsPart (Some (acts_of self.old.did.items)) (Some (acts_of self.new.did.items)) wrote bytes.now) }
+        ensures unfailed { OnOk result (self.new.failed ≡ self.old.failed) }
+        ensures failed { OnErr result (self.new.failed ≡ true) }
+
+        // It fails where the fuse burns, and otherwise only where memory is refused.
+        ensures fuse { self.new.fuse ≡ later self.old.fuse }
+        ensures lit { OnOk result (burns self.old.fuse ≡ false) }
+        ensures cause { OnErr result ((burns self.old.fuse ≡ true) ⊎ (self.new.refused ≡ true)) }
+    {
         if self.fuse.burns() {
-            let some = copied(self.alloc, &bytes[..bytes.len().min(self.fuse.part)])?;
-            note(&mut self.did, Did::Wrote(some))?;
-            return Err(HostFault);
+            self.wrote(&bytes[..bytes.len().min(self.fuse.part)])?;
+            return Err(self.fail());
         }
-        let all = copied(self.alloc, bytes)?;
-        note(&mut self.did, Did::Wrote(all))
+        self.wrote(bytes)
     }
 
-    fn sync(&mut self) -> Result<(), HostFault> {
+    fn sync(&mut self) -> Result<(), HostFault>
+        ensures begun { self.new.begun ≡ self.old.begun }
+        ensures ok { OnOk result (Adds (Some (acts_of self.old.did.items)) (Some (acts_of self.new.did.items)) (synced ∷ [])) }
+        ensures err { OnErr result (Adds (Some (acts_of self.old.did.items)) (Some (acts_of self.new.did.items)) []) }
+        ensures unfailed { OnOk result (self.new.failed ≡ self.old.failed) }
+        ensures failed { OnErr result (self.new.failed ≡ true) }
+
+        // It fails where the fuse burns, and otherwise only where memory is refused.
+        ensures fuse { self.new.fuse ≡ later self.old.fuse }
+        ensures lit { OnOk result (burns self.old.fuse ≡ false) }
+        ensures cause { OnErr result ((burns self.old.fuse ≡ true) ⊎ (self.new.refused ≡ true)) }
+    {
         if self.fuse.burns() {
-            return Err(HostFault);
+            return Err(self.fail());
         }
-        note(&mut self.did, Did::Synced)
+        self.note(Did::Synced)
     }
 
-    fn tell(&mut self, bytes: &[u8]) -> Result<(), HostFault> {
+    fn tell<W: Write>(&mut self, output: &mut Output<W>, bytes: &[u8]) -> Result<(), HostFault>
+        ensures begun { self.new.begun ≡ self.old.begun }
+        ensures ok { OnOk result (Adds (Some (acts_of self.old.did.items)) (Some (acts_of self.new.did.items)) (told bytes.now ∷ [])) }
+        ensures written { OnOk result (Appends (W.contents output.old.writer) (W.contents output.new.writer) bytes.now) }
+        ensures err { OnErr result (TellsPart (Some (acts_of self.old.did.items)) (Some (acts_of self.new.did.items))
+            (W.contents output.old.writer) (W.contents output.new.writer) bytes.now) }
+        ensures unfailed { OnOk result (self.new.failed ≡ self.old.failed) }
+        ensures output { OnOk result (output.new.calls.failed ≡ output.old.calls.failed) }
+        ensures failed { OnErr result (self.new.failed ≡ true) }
+
+        // It fails where the fuse burns, and otherwise only where memory is refused or a call of the output fails.
+        ensures fuse { self.new.fuse ≡ later self.old.fuse }
+        ensures lit { OnOk result (burns self.old.fuse ≡ false) }
+        ensures cause { OnErr result ((burns self.old.fuse ≡ true) ⊎ ((self.new.refused ≡ true) ⊎ (output.new.calls.failed ≡ true))) }
+    {
         if self.fuse.burns() {
-            let some = copied(self.alloc, &bytes[..bytes.len().min(self.fuse.part)])?;
-            note(&mut self.did, Did::Told(some))?;
-            return Err(HostFault);
+            let some = &bytes[..bytes.len().min(self.fuse.part)];
+            self.told(some)?;
+            let _ = output.write_whole(some);
+            return Err(self.fail());
         }
-        let all = copied(self.alloc, bytes)?;
-        note(&mut self.did, Did::Told(all))
+        self.told(bytes)?;
+        if let Err(_) = write_out(output, bytes) {
+            return Err(self.fail());
+        }
+        Ok(())
+    }
+}
+
+impl LogFiles for MemoryLog {
+    fn open(&mut self, alloc: Global, _path: &str) -> Result<Option<Vec<u8>>, OpenFault> {
+        if self.fuse.burns() {
+            self.failed = true;
+            return Err(OpenFault::Read);
+        }
+        let Some(bytes) = &self.begun else {
+            return Ok(None);
+        };
+        match Vec::from_slice(alloc, bytes.as_slice()) {
+            Ok(copy) => Ok(Some(copy)),
+            Err(_) => Err(OpenFault::Memory),
+        }
+    }
+
+    fn begin(&mut self, head: &[u8]) -> Result<(), HostFault> {
+        if self.fuse.burns() {
+            return Err(self.fail());
+        }
+        let copy = self.copied(head)?;
+        self.begun = Some(copy);
+        Ok(())
+    }
+
+    fn keep(&mut self, length: usize) -> Result<(), HostFault> {
+        if self.fuse.burns() {
+            return Err(self.fail());
+        }
+        if let Some(bytes) = &mut self.begun {
+            bytes.truncate(length);
+        }
+        Ok(())
     }
 }

@@ -1,6 +1,7 @@
 //! Commits over a log in memory, of which each call fails in turn.
 
-use log_host::{CommitFault, Committed, Did, Fuse, MemoryLog, commit};
+use line_protocol::Output;
+use log_host::{CommitFault, Did, Fuse, LogPlace, MemoryLog, commit};
 use log_text::{push_line, sum_after};
 use std::alloc::Global;
 use std::test::Fail;
@@ -20,15 +21,24 @@ fn told_of(did: &[Did]) -> (usize, usize, usize) {
     (wrote, synced, told)
 }
 
+/// The place before the batch.
+const PLACE: LogPlace = LogPlace {
+    name: *b"01234567",
+    sum: 7,
+    told: 0,
+};
+
 /// Commits one line of two bytes with an answer of three, where the call of that number fails after two bytes.
 fn committed(
     alloc: Global,
     calls: u64,
-) -> Result<(Result<Committed, CommitFault>, (usize, usize, usize)), Fail> {
-    let mut log = MemoryLog::new(alloc, Vec::new(alloc), Fuse { calls, part: 2 });
+) -> Result<(Result<LogPlace, CommitFault>, (usize, usize, usize)), Fail> {
+    let mut log = MemoryLog::new(alloc, None, Fuse { calls, part: 2 });
+    let written: Vec<u8> = Vec::new(alloc);
+    let mut output = Output::new(written);
     let mut batch = Vec::new(alloc);
     push_line(&mut batch, b"{}")?;
-    let done = commit(&mut log, b"01234567", 7, 0, &mut batch, b"ok\n");
+    let done = commit(&mut log, &mut output, PLACE, &mut batch, b"ok\n");
     let acts = told_of(log.did.as_slice());
     Ok((done, acts))
 }

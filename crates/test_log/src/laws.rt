@@ -13,4 +13,9 @@ fn the_laws_are_stated() {
     log_host::laws::starts_settled();
     log_host::laws::lives_last();
     log_host::laws::lasts_on();
+    log_answer::laws::silos_grow();
+    log_answer::laws::starts_go_on();
+    log_answer::laws::silos_last();
+    log_answer::laws::lines_lead_on();
+    log_answer::laws::logs_apart();
 }

@@ -1,0 +1,166 @@
+-- As far as an input was answered and its log has it.
+use Rattle.std.proofs.Common.{◌≡◌, ◌≢◌, ◌∙◌, ℕ, ◌+◌, Bool, IfSome, List, [], ◌∷◌, ◌++◌, Option, Some, refl, sym, subst, ap, ⊎_elim}
+use Rattle.std.specs.Prelude.{◌⊎◌}
+use Rattle.std.specs.Io.KnownBytes.{IsAtEnd, Keeps}
+use Rattle.std.proofs.KnownBytes.{Keeps-refl}
+use Rattle.grain_logic.specs.Logic.{Logic}
+use Rattle.silo_model.specs.Journal.{LeadsTo}
+use Rattle.silo_model.specs.Whole.{Whole}
+use Rattle.silo_core.specs.History.{History}
+use Rattle.line_protocol.specs.Lines.{lines_of}
+use Rattle.line_protocol.specs.Reading.{IsFresh, Reading, TakesCut, left_of}
+use Rattle.line_answer.specs.Limits.{answered_limit}
+use Rattle.answer_model.specs.Idle.{AllIdle}
+use Rattle.log_host.specs.Acts.{Act, Held}
+use Rattle.log_host.specs.declared.place.LogPlace.{LogPlace}
+use Rattle.log_answer.specs.Answers.{kept_line, kept_lines, silo_log}
+use Rattle.log_host.specs.Lasting.{LastsFrom}
+use Rattle.log_answer.specs.Runs.{AnswersLogged, GoesOn, KeepsLines, StopsLogged}
+use Rattle.log_answer.specs.declared.running.LogFault.{LogFault}
+use Rattle.log_answer.specs.declared.running.LogFault.TheVariants as fault
+use Rattle.log_answer.specs.inside.Commits.{Commits, Settles, StopsTaking, Waits}
+use Rattle.log_answer.specs.inside.Gathering.{Gathers}
+use Rattle.log_answer.proofs.Done.{Done, done_gathered, done_left, done_none, settles_last, settles_none}
+use Rattle.log_answer.proofs.Ends.{committed, done_all, keeps_all, lasts_taking, lasts_then, settles_then, stops_full, stops_memory, stops_taking}
+
+-- the log has these lines, if it is settled where the silo was
+abbrev pub Keeping : Logic → ℕ → LogPlace → Whole → List (List ℕ) → Option (List Act) → Option (List Act) → ℕ → Type 0
+Keeping logic n begun silo told start new sum = (w : Whole) (first : ℕ) (h : Held) (acts : List Act) → start ≡ Some acts → GoesOn logic n w first begun h silo
+    → Settles (silo_log logic n w begun.name first) h (kept_lines told) acts new sum
+
+pub record Going (logic : Logic) (n count : ℕ) (from left : Option (List ℕ)) (old now : History) (before after : Option (List ℕ)) (asked texts : List ℕ)
+    (begun place : LogPlace) (start new : Option (List Act)) : Type 0 where
+  pub told : List (List ℕ)
+  pub pending : List (List ℕ)
+  pub done : Done logic n count from left old now before after asked texts told pending
+  pub keeps : Keeping logic n begun old.whole told start new place.sum
+  pub name : place.name ≡ begun.name
+
+module _ (logic : Logic) (n : ℕ) where
+  pub going_none : (from : Option (List ℕ)) (old : History) (before : Option (List ℕ)) (asked texts : List ℕ) (begun : LogPlace) (start : Option (List Act))
+      → LeadsTo logic old.setup old.journal old.whole → AllIdle old.whole.entries → asked ≡ [] → texts ≡ []
+      → Going logic n 0 from from old old before before asked texts begun begun start start
+  going_none from old before asked texts begun start leads idle none nothing = record {
+    told = [];
+    pending = [];
+    done = done_none logic n from old before asked texts leads idle none nothing;
+    keeps = λ w first h acts is on. settles_none logic n w first begun h old.whole acts start is on;
+    name = refl;
+  }
+
+  module _ (count : ℕ) (from left : Option (List ℕ)) (old now : History) (before during : Option (List ℕ)) (asked texts : List ℕ) (begun place : LogPlace)
+      (start mid : Option (List Act)) (p : Going logic n count from left old now before during asked texts begun place start mid) where
+    -- the same is left to read
+    pub going_left : (next : Option (List ℕ)) → Keeps left next → Going logic n count from next old now before during asked texts begun place start mid
+    going_left next kept = record {
+      told = p.told;
+      pending = p.pending;
+      done = done_left logic n count from left old now before during asked texts p.told p.pending p.done next kept;
+      keeps = p.keeps;
+      name = p.name;
+    }
+
+    module _ (after : Option (List ℕ)) (asked_then texts_then : List ℕ) (next : LogPlace) (new : Option (List Act)) where
+      -- nothing was done
+      going_on : Waits mid new during after place next asked asked_then texts texts_then → Going logic n count from left old now before after asked_then texts_then begun next start new
+      going_on w = record {
+        told = p.told;
+        pending = p.pending;
+        done =
+            subst (λ a. Done logic n count from left old now before after a texts_then p.told p.pending) (sym w.asked_is)
+            (subst (λ t. Done logic n count from left old now before after asked t p.told p.pending) (sym w.text_is)
+            (subst (λ o. Done logic n count from left old now before o asked texts p.told p.pending) (sym w.output) p.done));
+        keeps = λ v first h acts is on.
+            subst (λ (x : LogPlace). Settles (silo_log logic n v begun.name first) h (kept_lines p.told) acts new x.sum) (sym w.place_is)
+            (subst (λ a. Settles (silo_log logic n v begun.name first) h (kept_lines p.told) acts a place.sum) (sym w.acts) (p.keeps v first h acts is on));
+        name = ap (λ (x : LogPlace). x.name) w.place_is ∙ p.name;
+      }
+
+      -- the batch was committed
+      pub going_committed : Commits mid new during after place asked texts next → asked_then ≡ [] → texts_then ≡ []
+          → Going logic n count from left old now before after asked_then texts_then begun next start new
+      going_committed c none nothing = record {
+        told = p.told ++ p.pending;
+        pending = [];
+        done = committed logic n count old now before asked texts from left during after p.told p.pending mid new place p.done next asked_then texts_then c none nothing;
+        keeps = λ w first h acts is on.
+            settles_then logic n count old now before asked texts from left during after p.told p.pending mid new place p.done w first begun h acts p.name on
+            (p.keeps w first h acts is on) next c;
+        name = c.name ∙ p.name;
+      }
+
+      pub going_moved : (Waits mid new during after place next asked asked_then texts texts_then
+          ⊎ (Commits mid new during after place asked texts next × (asked_then ≡ []) × (texts_then ≡ [])))
+          → Going logic n count from left old now before after asked_then texts_then begun next start new
+      going_moved moves = ⊎_elim going_on (λ c. going_committed c.0 c.1 c.2) moves
+
+    -- one line more waits in the batch
+    pub going_gathered : (next : Option (List ℕ)) (new : History) (found shown asked_then texts_then : List ℕ) → found ≡ shown → (w : TakesCut left next shown)
+        → Gathers logic n now (kept_line found) new asked asked_then texts texts_then
+        → Going logic n (count + 1) from next old new before during asked_then texts_then begun place start mid
+    going_gathered next new found shown asked_then texts_then same w g = record {
+      told = p.told;
+      pending = p.pending ++ w.line ∷ [];
+      done =
+          done_gathered logic n count from left old now before during asked texts p.told p.pending p.done next new shown asked_then texts_then w
+          (subst (λ l. Gathers logic n now (kept_line l) new asked asked_then texts texts_then) same g);
+      keeps = p.keeps;
+      name = p.name;
+    }
+
+    -- ---- the end of the input, behind the last batch
+
+    module _ (after : Option (List ℕ)) (next : LogPlace) (new : Option (List Act)) (c : Commits mid new during after place asked texts next) (reading : Reading) (rest : Option (List ℕ))
+        (kept : Keeps left (left_of reading rest)) where
+      ended : Done logic n count from (left_of reading rest) old now before after [] [] (p.told ++ p.pending) []
+      ended =
+          done_left logic n count from left old now before after [] [] (p.told ++ p.pending) []
+          (committed logic n count old now before asked texts from left during after p.told p.pending mid new place p.done next [] [] c refl refl)
+          (left_of reading rest) kept
+
+      pub going_ends : (total : ℕ) → total ≡ count → IsFresh reading → IsAtEnd rest → IfSome from (λ input. AnswersLogged logic n input total old now rest before after)
+      going_ends total same none end = done_all logic n count old now before [] [] total from reading rest after (p.told ++ p.pending) same none end ended
+
+      pub going_keeps : IsFresh reading → IsAtEnd rest → IfSome from (λ input. (w : Whole) (first : ℕ) (h : Held) (acts : List Act) → start ≡ Some acts
+          → GoesOn logic n w first begun h old.whole → KeepsLines (silo_log logic n w begun.name first) h (lines_of input) acts new)
+      going_keeps none end =
+          keeps_all logic n count old now before [] [] from reading rest after (p.told ++ p.pending) begun next.sum start new none end ended
+          (λ w first h acts is on.
+          settles_then logic n count old now before asked texts from left during after p.told p.pending mid new place p.done w first begun h acts p.name on
+          (p.keeps w first h acts is on) next c)
+
+      pub going_full : (failed : Bool) → count ≡ answered_limit → reading.ahead ≢ []
+          → IfSome from (λ input. StopsLogged logic n input reading rest failed old.whole before after fault.TooMuch)
+      going_full failed full some = stops_full logic n count old now before [] [] from after (p.told ++ p.pending) reading rest failed ended full some
+
+    pub lasts_ended : (after : Option (List ℕ)) (next : LogPlace) (new : Option (List Act)) → Commits mid new during after place asked texts next
+        → (w : Whole) (first : ℕ) (h : Held) (acts : List Act) → start ≡ Some acts → GoesOn logic n w first begun h old.whole
+        → LastsFrom (silo_log logic n w begun.name first) h acts new
+    lasts_ended after next new c w first h acts is on =
+        lasts_then logic n count old now before asked texts from left during after p.told p.pending mid new place p.done w first begun h acts p.name on
+        (p.keeps w first h acts is on) next c
+
+    -- ---- a fault
+
+    pub going_stops : (why : LogFault) (after rest : Option (List ℕ)) (new : Option (List Act)) (reading : Reading) (failed : Bool)
+        → StopsTaking mid new during after place asked texts left rest reading failed why
+        → IfSome from (λ input. StopsLogged logic n input reading rest failed old.whole before after why)
+    going_stops why after rest new reading failed s =
+        stops_taking logic n count old now before asked texts from left during after p.told p.pending mid new place p.done why reading rest failed s
+
+    pub lasts_stopped : (why : LogFault) (after rest : Option (List ℕ)) (new : Option (List Act)) (reading : Reading) (failed : Bool)
+        → StopsTaking mid new during after place asked texts left rest reading failed why
+        → (w : Whole) (first : ℕ) (h : Held) (acts : List Act) → start ≡ Some acts → GoesOn logic n w first begun h old.whole
+        → LastsFrom (silo_log logic n w begun.name first) h acts new
+    lasts_stopped why after rest new reading failed s w first h acts is on =
+        lasts_taking logic n count old now before asked texts from left during after p.told p.pending mid new place p.done w first begun h acts p.name on
+        (p.keeps w first h acts is on) why reading rest failed s
+
+    pub lasts_now : (w : Whole) (first : ℕ) (h : Held) (acts : List Act) → start ≡ Some acts → GoesOn logic n w first begun h old.whole
+        → LastsFrom (silo_log logic n w begun.name first) h acts mid
+    lasts_now w first h acts is on = settles_last (silo_log logic n w begun.name first) h (kept_lines p.told) acts mid place.sum (p.keeps w first h acts is on)
+
+    pub going_memory : (reading : Reading) (rest : Option (List ℕ)) (failed : Bool)
+        → IfSome from (λ input. StopsLogged logic n input reading rest failed old.whole before during fault.Memory)
+    going_memory reading rest failed =
+        stops_memory logic n count old now before asked texts from left during during p.told p.pending reading rest failed p.done (Keeps-refl during)

@@ -1,0 +1,62 @@
+-- What answering an input leaves, with a log that is on the disk before anything is told.
+use Rattle.std.specs.Prelude.{◌≡◌, ◌⊎◌, ℕ, Bool, true, List, [], ◌++◌, length, Option, Some}
+use Rattle.std.specs.Io.KnownBytes.{Appends}
+use Rattle.grain_logic.specs.Logic.{Logic}
+use Rattle.silo_model.specs.Whole.{Whole}
+use Rattle.silo_core.specs.History.{History}
+use Rattle.line_protocol.specs.Limits.{calls_limit}
+use Rattle.line_protocol.specs.Lines.{lines_of}
+use Rattle.line_protocol.specs.LineRuns.{WrittenInPart}
+use Rattle.line_protocol.specs.Reading.{AreTaken, Reading}
+use Rattle.line_answer.specs.Limits.{IsAnsweredOut}
+use Rattle.log_text.specs.Lines.{HasNoBreak}
+use Rattle.log_host.specs.Acts.{Act, Held, held_from}
+use Rattle.log_host.specs.Lasting.{IsSettled, Log, lines_in}
+use Rattle.log_host.specs.declared.place.LogPlace.{LogPlace}
+use Rattle.log_answer.specs.Answers.{IsLed, kept_lines, led, silo_log, told_for}
+use Rattle.log_answer.specs.declared.running.LogFault.{LogFault}
+use Rattle.log_answer.specs.declared.running.LogFault.TheVariants as fault
+
+module _ (logic : Logic) (n : ℕ) where
+  -- A log of lines that were first asked where the silo was `w`, with `first` as the sum before them. It is settled, and the silo is where
+  -- its lines lead.
+  pub record GoesOn (w : Whole) (first : ℕ) (place : LogPlace) (h : Held) (silo : Whole) : Type 0 where
+    pub plain : HasNoBreak place.name
+    pub settled : IsSettled (silo_log logic n w place.name first) h place.sum
+    pub leads : silo ≡ led logic n w (lines_in (silo_log logic n w place.name first) h.file)
+
+  -- All of the input was read, it has so many lines, the silo answered each and nothing failed, and what was written is their text.
+  pub record AnswersLogged (input : List ℕ) (count : ℕ) (old new : History) (left before after : Option (List ℕ)) : Type 0 where
+    pub read : left ≡ Some []
+    pub counted : count ≡ length (lines_of input)
+    pub leads : IsLed logic n old (lines_of input) new
+    pub written : Appends before after (told_for logic n old.whole (lines_of input))
+
+  -- What was written before a fault: for the first lines all that they are told, and for a batch behind them the first part of that.
+  pub record TellsFirst (lines : List (List ℕ)) (w : Whole) (before after : Option (List ℕ)) : Type 0 where
+    pub told : List (List ℕ)
+    pub batch : List (List ℕ)
+    pub others : List (List ℕ)
+    pub parts : lines ≡ told ++ (batch ++ others)
+    pub during : Option (List ℕ)
+    pub whole : Appends before during (told_for logic n w told)
+    pub part : WrittenInPart during after (told_for logic n (led logic n w told) batch)
+
+  -- Why it stops, and what was told. Before a read all that was read before was told. After `Memory` it isn't told what the silo holds.
+  module _ (input : List ℕ) (reading : Reading) (left : Option (List ℕ)) (failed : Bool) (w : Whole) (before after : Option (List ℕ)) where
+    abbrev pub StopsLogged : LogFault → Type 0
+    StopsLogged fault.Read =
+        (p : TellsFirst (lines_of input) w before after) × (p.batch ≡ []) × (reading.calls.failed ≡ true) × AreTaken input left p.told
+    StopsLogged fault.TooMuch =
+        (p : TellsFirst (lines_of input) w before after) × (p.batch ≡ [])
+        × (IsAnsweredOut p.told p.others ⊎ ((reading.calls.made ≡ calls_limit) × AreTaken input left p.told))
+    StopsLogged fault.Memory = (p : TellsFirst (lines_of input) w before after) × (p.batch ≡ [])
+    StopsLogged fault.Write = TellsFirst (lines_of input) w before after × (failed ≡ true)
+
+-- The log was given these lines, and is settled again.
+pub record KeepsLines (log : Log) (h : Held) (lines : List (List ℕ)) (old : List Act) (new : Option (List Act)) : Type 0 where
+  pub more : List Act
+  pub acts : new ≡ Some (old ++ more)
+  pub sum : ℕ
+  pub settled : IsSettled log (held_from h more) sum
+  pub lines_then : lines_in log (held_from h more).file ≡ lines_in log h.file ++ kept_lines lines

@@ -1,0 +1,65 @@
+//! One line that is answered, if nothing fails.
+
+ghost use Rattle.std.specs.Prelude.{◌≡◌, false, [], ◌∷◌, OnOk, string_bytes};
+ghost use Rattle.log_answer.specs.Answers.{LeadsLines};
+
+use crate::well::all_went_well;
+use bumpalo::Bump;
+use grain_logic::GrainLogic;
+use grain_storage::GrainStorage;
+use line_answer::{AnsweringSilo, answer_line};
+use line_parser::LineScratch;
+use std::alloc::{AllocError, Global};
+
+/// What answering takes: an arena for turns, room to read a line, and the text of the line that was answered last.
+#[derive(Drop)]
+pub(crate) struct LineTools {
+    bump: Bump,
+    scratch: LineScratch,
+    pub(crate) text: String,
+}
+
+impl LineTools {
+    /// Nothing was answered yet.
+    pub(crate) fn new(alloc: Global) -> LineTools {
+        LineTools {
+            bump: Bump::new(alloc),
+            scratch: LineScratch::new(alloc),
+            text: String::new(alloc),
+        }
+    }
+}
+
+/// Answers a line. What it is told is the text.
+///
+/// # Errors
+///
+/// Out of memory; or a call of the storage failed, or a turn was given up. It isn't told what the silo holds then.
+pub(crate) fn answer_well<S: GrainStorage, L: GrainLogic>(
+    alloc: Global,
+    tools: &mut LineTools,
+    silo: &mut AnsweringSilo<S, L>,
+    most: u64,
+    line: &[u8],
+) -> Result<(), AllocError>
+    requires { silo.old.stopped ≡ false }
+    ensures leads { OnOk result (LeadsLines L.logic most silo.old.history (line.now ∷ []) silo.new.history (string_bytes tools.new.text)) }
+    ensures ready { OnOk result (silo.new.stopped ≡ false) }
+{
+    let before = silo.journal().len();
+    answer_line(
+        alloc,
+        &mut tools.bump,
+        &mut tools.scratch,
+        silo,
+        most,
+        line,
+        &mut tools.text,
+    )?;
+    let (_, new) = silo.journal().split_at(before);
+    if all_went_well(new) {
+        Ok(())
+    } else {
+        Err(AllocError)
+    }
+}

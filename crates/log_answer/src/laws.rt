@@ -1,0 +1,35 @@
+//! Laws of a silo that starts again and again from its log. Each is the contract of a function that does nothing.
+
+ghost use Rattle.log_answer.specs.Laws.{LinesLeadOn, LogsApart, SilosGrow, SilosLast, StartsGoOn};
+
+/// What a silo tells for some lines is the beginning of what it tells for them and for more.
+#[tactic(auto, using(crate::proofs::Led::silos_grow))]
+pub fn silos_grow()
+    ensures { SilosGrow }
+{}
+
+/// A start that answered a log again, whatever a crash left of it, goes on: what it keeps of the log is settled, and the silo is
+/// where its lines lead.
+#[tactic(auto, using(crate::proofs::Lives::starts_go_on))]
+pub fn starts_go_on()
+    ensures { StartsGoOn }
+{}
+
+/// However often a process ends and starts again: all that any of its lives told is the beginning of what the log answers that
+/// is left in the end, and the lines that a life began with are the first of those.
+#[tactic(auto, using(crate::proofs::Lives::silos_last))]
+pub fn silos_last()
+    ensures { SilosLast }
+{}
+
+/// Where lines lead, and then more, is where all of them lead.
+#[tactic(auto, using(crate::proofs::Led::lines_lead_on))]
+pub fn lines_lead_on()
+    ensures { LinesLeadOn }
+{}
+
+/// Two logs whose lines ask the same for a tenant show it the same, whatever the lines of others are.
+#[tactic(auto, using(crate::proofs::Lives::logs_apart))]
+pub fn logs_apart()
+    ensures { LogsApart }
+{}

@@ -1,0 +1,194 @@
+//! Every line of an input, in a log before anything is told for it.
+
+ghost use Rattle.std.specs.Prelude.{◌≡◌, ◌⊎◌, ◌≤◌, [], false, true, List, ℕ, Ok, Option, Some, IfErr, IfOk, IfSome, OnErr, OnOk};
+ghost use Rattle.std.specs.Io.KnownBytes.{IsAtEnd, Keeps};
+ghost use Rattle.silo_model.specs.Whole.{Whole};
+ghost use Rattle.line_protocol.specs.Lines.{lines_of};
+ghost use Rattle.line_protocol.specs.Reading.{TakesCut, left_of};
+ghost use Rattle.line_answer.specs.Limits.{answered_limit};
+ghost use Rattle.log_host.specs.Acts.{Act, Held};
+ghost use Rattle.log_host.specs.Lasting.{LastsFrom};
+ghost use Rattle.log_answer.specs.Answers.{silo_log};
+ghost use Rattle.log_answer.specs.Runs.{AnswersLogged, GoesOn, KeepsLines, StopsLogged};
+ghost use Rattle.log_answer.specs.inside.Commits.{Commits, StopsTaking, Waits};
+
+use crate::answering::LineTools;
+use crate::batch::{Batch, answer_more, commit_batch};
+use grain_logic::GrainLogic;
+use grain_storage::GrainStorage;
+use line_answer::{ANSWERED_LIMIT, AnsweringSilo, Input, LineFault, Output};
+use line_protocol::LineReader;
+use log_host::{CommitFault, LogHost, LogPlace};
+use std::alloc::{AllocError, Global};
+use std::io::{Read, Write};
+
+/// Why the lines of an input were not all answered.
+#[derive(Clone, Copy, Debug, PartialEq, Eq)]
+pub enum LogFault {
+    /// A call of the reader failed.
+    Read,
+
+    /// A call of the log's host failed, which tells, too. The log is to be asked nothing more.
+    Write,
+
+    /// Memory was refused, or a turn was given up for want of it, or a call of the storage failed.
+    Memory,
+
+    /// The input has more than 1,073,741,824 lines, or takes more calls of the reader than that.
+    TooMuch,
+}
+
+impl From<AllocError> for LogFault {
+    ghost use Rattle.log_answer.specs.declared.running.LogFault.TheVariants as fault;
+
+    ghost from_gives = { λ _ e. e ≡ fault.Memory };
+
+    fn from(_refused: AllocError) -> LogFault {
+        LogFault::Memory
+    }
+}
+
+impl From<LineFault> for LogFault {
+    ghost use Rattle.log_answer.specs.inside.Faults.{fault_of_line};
+
+    ghost from_gives = { λ why e. e ≡ fault_of_line why };
+
+    fn from(why: LineFault) -> LogFault {
+        match why {
+            LineFault::Read => LogFault::Read,
+            LineFault::Write => LogFault::Write,
+            LineFault::Memory => LogFault::Memory,
+            LineFault::TooMuch => LogFault::TooMuch,
+        }
+    }
+}
+
+impl From<CommitFault> for LogFault {
+    ghost use Rattle.log_answer.specs.inside.Faults.{fault_of_commit};
+
+    ghost from_gives = { λ why e. e ≡ fault_of_commit why };
+
+    fn from(why: CommitFault) -> LogFault {
+        match why {
+            CommitFault::Memory => LogFault::Memory,
+            CommitFault::Host => LogFault::Write,
+        }
+    }
+}
+
+/// Takes the next line if all of it is read ahead and the batch takes one more.
+fn take_at_hand(lines: &mut LineReader, batch: &Batch) -> bool
+    ensures some { result ≡ true → (rest : Option (List ℕ)) → TakesCut (left_of lines.old rest) (left_of lines.new rest) lines.new.line }
+    ensures none { result ≡ false → lines.new ≡ lines.old }
+{
+    if batch.is_full() {
+        return false;
+    }
+    lines.take_whole()
+}
+
+/// Takes the next line; `false` at the end. If it isn't at hand, the batch is committed before.
+fn take_next<R: Read, W: Write, H: LogHost>(
+    input: &mut Input<R>,
+    output: &mut Output<W>,
+    log: &mut H,
+    place: &mut LogPlace,
+    batch: &mut Batch,
+) -> Result<bool, LogFault>
+    ensures line { result ≡ Ok true → TakesCut (left_of input.old.lines (R.remaining input.old.reader))
+        (left_of input.new.lines (R.remaining input.new.reader)) input.new.lines.line }
+    ensures kept { result ≡ Ok false → Keeps (left_of input.old.lines (R.remaining input.old.reader))
+        (left_of input.new.lines (R.remaining input.new.reader)) }
+    ensures none { result ≡ Ok false → input.new.lines.ahead ≡ [] }
+    ensures end { result ≡ Ok false → IsAtEnd (R.remaining input.new.reader) }
+    ensures moves { result ≡ Ok true → Waits (H.acts log.old) (H.acts log.new)
+        (W.contents output.old.writer) (W.contents output.new.writer) place.old place.new
+        batch.old.asked.items batch.new.asked.items batch.old.text.items batch.new.text.items
+        ⊎ (Commits (H.acts log.old) (H.acts log.new) (W.contents output.old.writer) (W.contents output.new.writer) place.old
+        batch.old.asked.items batch.old.text.items place.new × (batch.new.asked.items ≡ []) × (batch.new.text.items ≡ [])) }
+    ensures commits { result ≡ Ok false → Commits (H.acts log.old) (H.acts log.new)
+        (W.contents output.old.writer) (W.contents output.new.writer) place.old batch.old.asked.items batch.old.text.items place.new }
+    ensures stops { IfErr result (λ why. StopsTaking (H.acts log.old) (H.acts log.new)
+        (W.contents output.old.writer) (W.contents output.new.writer) place.old batch.old.asked.items batch.old.text.items
+        (left_of input.old.lines (R.remaining input.old.reader)) (R.remaining input.new.reader) input.new.lines (H.failed log.new) why) }
+    ensures unfailed { OnOk result (H.failed log.new ≡ H.failed log.old) }
+    ensures output { OnOk result (output.new.calls.failed ≡ output.old.calls.failed) }
+{
+    if take_at_hand(&mut input.lines, batch) {
+        return Ok(true);
+    }
+    *place = commit_batch(log, output, *place, batch)?;
+    let more = input.lines.next_line(&mut input.reader)?;
+    Ok(more)
+}
+
+/// Answers each line before the next is read, with at most so many deliveries behind it, and has it in the log, on the disk,
+/// before anything is told for it. Answers the number of lines, at most 1,073,741,824.
+///
+/// What one read brought is one batch: all of its lines are answered, and then they are kept and their text is told, before a
+/// read that may wait. A batch with more than 1,048,576 bytes of lines, or of texts, takes no line more. The log has each line, with
+/// at most 65,537 bytes of it.
+///
+/// # Errors
+///
+/// `Read` if a call of the reader failed, and `Write` if a call of the log's host failed, which it notes: pass one that notes none.
+/// `Memory` if memory was refused, a turn was given up or a call of the storage failed: nothing is told of that line's batch, and
+/// the silo may have stopped. `TooMuch` at more than 1,073,741,824 lines, or if one more call of the reader than that would be
+/// needed.
+pub fn answer_logged<R: Read, W: Write, H: LogHost, S: GrainStorage, L: GrainLogic>(
+    alloc: Global,
+    input: &mut Input<R>,
+    output: &mut Output<W>,
+    log: &mut H,
+    place: LogPlace,
+    silo: &mut AnsweringSilo<S, L>,
+    most: u64,
+) -> Result<u64, LogFault>
+    requires { silo.old.stopped ≡ false }
+
+    // At each moment of the call, however it ends: whatever a crash leaves of the log, what was told is the beginning of what
+    // that log answers.
+    ensures lasts { (w : Whole) (first : ℕ) (h : Held) (acts : List Act) → H.acts log.old ≡ Some acts
+        → GoesOn L.logic most w first place h silo.old.history.whole
+        → LastsFrom (silo_log L.logic most w place.name first) h acts (H.acts log.new) }
+    ensures answered { IfOk result (λ n. IfSome (left_of input.old.lines (R.remaining input.old.reader)) (λ bytes.
+        AnswersLogged L.logic most bytes n silo.old.history silo.new.history (R.remaining input.new.reader)
+        (W.contents output.old.writer) (W.contents output.new.writer))) }
+
+    // The log was given all lines.
+    ensures kept { OnOk result (IfSome (left_of input.old.lines (R.remaining input.old.reader)) (λ bytes.
+        (w : Whole) (first : ℕ) (h : Held) (acts : List Act) → H.acts log.old ≡ Some acts
+        → GoesOn L.logic most w first place h silo.old.history.whole
+        → KeepsLines (silo_log L.logic most w place.name first) h (lines_of bytes) acts (H.acts log.new))) }
+    ensures stops { IfErr result (λ why. IfSome (left_of input.old.lines (R.remaining input.old.reader)) (λ bytes.
+        StopsLogged L.logic most bytes input.new.lines (R.remaining input.new.reader) (H.failed log.new) silo.old.history.whole
+        (W.contents output.old.writer) (W.contents output.new.writer) why)) }
+    ensures ready { OnOk result (silo.new.stopped ≡ false) }
+    ensures bound { IfOk result (λ n. n ≤ answered_limit) }
+    ensures unfailed { OnOk result (H.failed log.new ≡ H.failed log.old) }
+    ensures output { OnOk result (output.new.calls.failed ≡ output.old.calls.failed) }
+{
+    // For the proof: where the silo's journal leads.
+    let _ = silo.journal();
+    let mut tools = LineTools::new(alloc);
+    let mut batch = Batch::new(alloc);
+    let mut place = place;
+    for count in 0..ANSWERED_LIMIT {
+        if !take_next(input, output, log, &mut place, &mut batch)? {
+            return Ok(count);
+        }
+        answer_more(
+            alloc,
+            &mut tools,
+            silo,
+            most,
+            input.lines.line(),
+            &mut batch,
+        )?;
+    }
+    commit_batch(log, output, place, &mut batch)?;
+    if input.lines.fill(&mut input.reader)? {
+        return Err(LogFault::TooMuch);
+    }
+    Ok(ANSWERED_LIMIT)
+}

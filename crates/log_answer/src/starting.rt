@@ -1,0 +1,138 @@
+//! The lines of a log, answered once more at a start.
+
+ghost use Rattle.std.specs.Prelude.{◌≡◌, false, IfErr, IfOk, OnOk, length};
+ghost use Rattle.log_text.specs.Reading.{asked_lines, same_text};
+ghost use Rattle.log_text.specs.Sums.{spelled};
+ghost use Rattle.log_answer.specs.Answers.{LeadsLines};
+ghost use Rattle.log_answer.specs.Starts.{AnswersAgain, StopsAgain};
+
+use crate::answering::{LineTools, answer_well};
+use grain_logic::GrainLogic;
+use grain_storage::GrainStorage;
+use line_answer::AnsweringSilo;
+use log_host::LogPlace;
+use log_text::{fault_behind, next_asked, next_batch, spell, sum_after};
+use std::alloc::{AllocError, Global};
+
+/// What a start made of a log: the place behind its last batch, how many bytes its batches have, and how many lines were answered.
+#[derive(Clone, Copy, Debug, PartialEq, Eq)]
+pub struct Again {
+    pub place: LogPlace,
+    pub length: usize,
+    pub lines: usize,
+}
+
+/// Why a log wasn't answered again.
+#[derive(Clone, Copy, Debug, PartialEq, Eq)]
+pub enum AgainFault {
+    /// Memory was refused, or a turn was given up for want of it, or a call of the storage failed.
+    Memory,
+
+    /// What stands behind the last batch is refused; so many lines stand before the one at fault.
+    Refused(usize),
+
+    /// For a batch something else would be told than was; so many lines stand before its mark.
+    Otherwise(usize),
+}
+
+impl From<AllocError> for AgainFault {
+    ghost use Rattle.log_answer.specs.declared.starting.AgainFault.TheVariants as fault;
+
+    ghost from_gives = { λ _ e. e ≡ fault.Memory };
+
+    fn from(_refused: AllocError) -> AgainFault {
+        AgainFault::Memory
+    }
+}
+
+/// Answers the lines of one batch, and puts what they are told in place of another text. Answers how many they are.
+fn answer_asked<S: GrainStorage, L: GrainLogic>(
+    alloc: Global,
+    tools: &mut LineTools,
+    silo: &mut AnsweringSilo<S, L>,
+    most: u64,
+    asked: &[u8],
+    text: &mut Vec<u8>,
+) -> Result<usize, AllocError>
+    requires { silo.old.stopped ≡ false }
+    ensures leads { OnOk result (LeadsLines L.logic most silo.old.history (asked_lines asked.now) silo.new.history text.new.items) }
+    ensures count { IfOk result (λ n. n ≡ length (asked_lines asked.now)) }
+    ensures ready { OnOk result (silo.new.stopped ≡ false) }
+{
+    // For the proof: that all is idle.
+    let _ = silo.journal();
+    text.clear();
+    let mut rest = asked;
+    let mut count = 0;
+    'lines: loop {
+        let Some((line, others)) = next_asked(rest) else {
+            return Ok(count);
+        };
+        answer_well(alloc, tools, silo, most, line)?;
+        text.extend_from_slice(tools.text.as_str().as_bytes())?;
+        count += 1;
+        rest = others;
+    }
+}
+
+/// Whether a mark says this sum.
+fn says(told: &[u8], sum: u64) -> bool
+    ensures { result ≡ same_text told.now (spelled sum) }
+{
+    told == spell(sum).as_slice()
+}
+
+/// Answers the lines of a log's bytes once more, from the place before them, which stand behind its head. Nothing is told. What each
+/// mark says was told is compared with what would be.
+///
+/// What stands behind the last batch is to be cut off before the log goes on at the place that is answered.
+///
+/// # Errors
+///
+/// `Otherwise` at the first mark that says another sum; `Refused` if all marks say theirs and what stands behind them is refused;
+/// `Memory` if memory was refused, a turn was given up or a call of the storage failed. The silo is not to be used then.
+pub fn answer_again<S: GrainStorage, L: GrainLogic>(
+    alloc: Global,
+    silo: &mut AnsweringSilo<S, L>,
+    most: u64,
+    place: LogPlace,
+    bytes: &[u8],
+) -> Result<Again, AgainFault>
+    requires { silo.old.stopped ≡ false }
+    ensures answered { IfOk result (λ again. AnswersAgain L.logic most place bytes.now silo.old.history silo.new.history again) }
+    ensures stops { IfErr result (λ why. StopsAgain L.logic most place bytes.now silo.old.history.whole why) }
+    ensures ready { OnOk result (silo.new.stopped ≡ false) }
+{
+    // For the proof: where the silo's journal leads, and that all is idle.
+    let _ = silo.journal();
+    let mut tools = LineTools::new(alloc);
+    let mut text = Vec::new(alloc);
+    let (mut sum, mut told) = (place.sum, place.told);
+    let (mut lines, mut marks) = (0, 0);
+    let mut rest = bytes;
+    'batches: loop {
+        let Some(next) = next_batch(&place.name, sum, rest) else {
+            return match fault_behind(&place.name, rest) {
+                Some(found) => Err(AgainFault::Refused(lines + marks + found)),
+                None => Ok(Again {
+                    place: LogPlace {
+                        name: place.name,
+                        sum,
+                        told,
+                    },
+                    length: bytes.len() - rest.len(),
+                    lines,
+                }),
+            };
+        };
+        let count = answer_asked(alloc, &mut tools, silo, most, next.asked, &mut text)?;
+        told = sum_after(told, text.as_slice());
+        if !says(next.told, told) {
+            return Err(AgainFault::Otherwise(lines + marks + count));
+        }
+        lines += count;
+        marks += 1;
+        sum = next.sum;
+        rest = next.behind;
+    }
+}

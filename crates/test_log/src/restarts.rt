@@ -1,0 +1,193 @@
+//! A silo that keeps its lines in a log, ends at each call of the log in turn, and starts again from what is left.
+
+use grain_kinds::Kinds;
+use grain_storage::{FusedStorage, MemoryStorage};
+use line_answer::{AnsweringSilo, Input, Output};
+use log_answer::{Again, LogFault, LogPlace, answer_again, answer_logged};
+use log_host::{Did, Fuse, MemoryLog};
+use std::alloc::Global;
+use std::test::Fail;
+use test_helpers::setups::{Ages, setup_over};
+
+type LoggedSilo = AnsweringSilo<FusedStorage, Kinds>;
+
+/// The place before the first batch.
+const FIRST: LogPlace = LogPlace {
+    name: *b"01234567",
+    sum: 7,
+    told: 0,
+};
+
+/// Bytes that a read brings at most: one line, or two.
+const READ: usize = 200;
+
+static LINES: &str =
+    r#"{"op":"call","from":"red/c1","id":1,"grain":"counter/red:a","method":"add","args":{"by":3}}
+{"op":"call","from":"red/c1","id":2,"grain":"counter/red:a","method":"add","args":{"by":4}}
+
+{"op":"nothing"}
+{"op":"call","from":"red/c1","id":3,"grain":"counter/red:a","method":"save","args":null}
+{"op":"status","from":"red/c1","id":4}
+"#;
+
+static TOLD: &str = r#"{"from":"red/c1","id":1,"ok":3}
+{"from":"red/c1","id":2,"ok":7}
+{"error":10,"text":"line is not a request"}
+{"from":"red/c1","id":3,"ok":"1"}
+{"from":"red/c1","id":4,"ok":{"activations":1,"clock":0,"requests":3}}
+"#;
+
+/// A call and what it is told behind these lines.
+static NEXT: &str =
+    r#"{"op":"call","from":"red/c1","id":5,"grain":"counter/red:a","method":"add","args":{"by":1}}
+"#;
+
+static NEXT_TOLD: &str = r#"{"from":"red/c1","id":5,"ok":8}
+"#;
+
+fn new_silo(alloc: Global) -> Result<LoggedSilo, Fail> {
+    let storage = FusedStorage::new(MemoryStorage::new(alloc), 0);
+    let ages = Ages { age: 5, kinds: &[] };
+    let setup = setup_over(alloc, &["red"], 3, ages, storage, Kinds)?;
+    Ok(AnsweringSilo::new(alloc, setup)?)
+}
+
+/// What a life left: the log, that of it which is on the disk, and what was told.
+#[derive(Drop)]
+struct Left {
+    file: Vec<u8>,
+    safe: usize,
+    told: Vec<u8>,
+    failed: bool,
+}
+
+/// The log as the acts left it.
+fn add_acts(left: &mut Left, did: &[Did]) -> Result<(), Fail> {
+    for one in did {
+        match one {
+            Did::Wrote(bytes) => left.file.extend_from_slice(bytes.as_slice())?,
+            Did::Synced => left.safe = left.file.len(),
+            Did::Told(_) => {}
+        }
+    }
+    Ok(())
+}
+
+fn again(alloc: Global, silo: &mut LoggedSilo, bytes: &[u8]) -> Result<Again, Fail> {
+    if silo.is_stopped() {
+        return Err(Fail::from("the silo has stopped"));
+    }
+    match answer_again(alloc, silo, 10, FIRST, bytes) {
+        Ok(again) => Ok(again),
+        Err(why) => Err(Fail::new(format_args!("{why:?}"))),
+    }
+}
+
+fn logged(
+    alloc: Global,
+    silo: &mut LoggedSilo,
+    log: &mut MemoryLog,
+    place: LogPlace,
+    lines: &str,
+    output: &mut Output<Vec<u8>>,
+) -> Result<Result<u64, LogFault>, Fail> {
+    if silo.is_stopped() {
+        return Err(Fail::from("the silo has stopped"));
+    }
+    let mut input = Input::with_capacity(alloc, lines.as_bytes(), READ)?;
+    Ok(answer_logged(alloc, &mut input, output, log, place, silo, 10))
+}
+
+/// A life over what is left of a log: it starts, and answers the lines, and the fuse ends it.
+fn lived(alloc: Global, begun: &[u8], lines: &str, fuse: Fuse) -> Result<Left, Fail> {
+    let mut silo = new_silo(alloc)?;
+    let start = again(alloc, &mut silo, begun)?;
+    let mut log = MemoryLog::new(alloc, None, fuse);
+    let written: Vec<u8> = Vec::new(alloc);
+    let mut output = Output::new(written);
+    let end = logged(alloc, &mut silo, &mut log, start.place, lines, &mut output);
+    drop(silo);
+    let failed = end?.is_err();
+    let mut left = Left {
+        file: Vec::from_slice(alloc, &begun[..start.length])?,
+        safe: start.length,
+        told: output.writer,
+        failed,
+    };
+    add_acts(&mut left, log.did.as_slice())?;
+    Ok(left)
+}
+
+/// How many lines a start answers again of these bytes.
+fn answered(alloc: Global, bytes: &[u8]) -> Result<usize, Fail> {
+    let mut silo = new_silo(alloc)?;
+    let start = again(alloc, &mut silo, bytes);
+    drop(silo);
+    Ok(start?.lines)
+}
+
+fn same(found: &[u8], wanted: &str) -> Result<(), Fail> {
+    if found == wanted.as_bytes() {
+        return Ok(());
+    }
+    Err(Fail::new(format_args!("{found:?} in place of {wanted}")))
+}
+
+fn holds(what: &str, it: bool) -> Result<(), Fail> {
+    if it {
+        return Ok(());
+    }
+    Err(Fail::new(format_args!("{what}")))
+}
+
+const NONE: Fuse = Fuse { calls: 0, part: 0 };
+
+#[test]
+fn a_silo_starts_again_as_it_was(rt: HostRuntime) -> Result<(), Fail> {
+    let alloc = rt.alloc();
+    let first = lived(alloc, b"", LINES, NONE)?;
+    same(first.told.as_slice(), TOLD)?;
+    holds(
+        "six lines",
+        answered(alloc, first.file.as_slice())? == 6 && first.safe == first.file.len(),
+    )?;
+    let second = lived(alloc, first.file.as_slice(), NEXT, NONE)?;
+    same(second.told.as_slice(), NEXT_TOLD)
+}
+
+/// Whether what was told is the beginning of all that is told, and the log that is left has the lines of it; of the first six lines
+/// five are told a line.
+fn is_kept(alloc: Global, left: &Left) -> Result<bool, Fail> {
+    let told = left.told.iter().filter(|byte| **byte == b'\n').count();
+    let kept = answered(alloc, &left.file.as_slice()[..left.safe])?;
+    let all = answered(alloc, left.file.as_slice())?;
+    Ok(TOLD.as_bytes().starts_with(left.told.as_slice()) && told <= kept && kept <= all)
+}
+
+#[test]
+fn what_was_told_is_in_the_log(rt: HostRuntime) -> Result<(), Fail> {
+    let alloc = rt.alloc();
+    for calls in 1..100 {
+        let left = lived(alloc, b"", LINES, Fuse { calls, part: 30 })?;
+        holds("it is kept", is_kept(alloc, &left)?)?;
+        if !left.failed {
+            return holds("two batches", calls > 6);
+        }
+    }
+    Err(Fail::from("each call fails"))
+}
+
+#[test]
+fn a_log_that_tells_otherwise_is_refused(rt: HostRuntime) -> Result<(), Fail> {
+    let alloc = rt.alloc();
+    let mut silo = new_silo(alloc)?;
+    let mut log = Vec::new(alloc);
+    log_text::push_line(&mut log, b"{}")?;
+    log_text::push_mark(&mut log, &FIRST.name, FIRST.sum, 1)?;
+    let start = answer_again(alloc, &mut silo, 10, FIRST, log.as_slice());
+    drop(silo);
+    holds(
+        "another sum",
+        matches!(start, Err(log_answer::AgainFault::Otherwise(1))),
+    )
+}
