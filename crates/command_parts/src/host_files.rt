@@ -2,6 +2,7 @@
 
 use crate::counted_reader::{CountedReader, read_to_end};
 use crate::files::{FileFault, WholeFiles, fault_of};
+use crate::host_logs::HostData;
 use host_writing::{replace_file, write_file};
 use std::alloc::Global;
 use std::fs;
@@ -15,7 +16,18 @@ const BESIDE: &str = ".new";
 /// The files of the host.
 #[derive(Drop)]
 pub struct HostFiles<'a, R> {
-    pub rt: &'a R,
+    pub(crate) rt: &'a R,
+    pub(crate) data: HostData<'a, R>,
+}
+
+impl<'a, R> HostFiles<'a, R> {
+    /// No folder of data is open yet.
+    pub fn new(rt: &'a R) -> HostFiles<'a, R> {
+        HostFiles {
+            rt,
+            data: HostData::new(),
+        }
+    }
 }
 
 /// Whether a new file may take the path's place: there is a regular file, and no link to one, or nothing.
