@@ -19,6 +19,7 @@ failure_text cause.Memory = codes "silo: out of memory" ++ 10 ∷ []
 failure_text cause.TooMuch = codes "silo: too much input" ++ 10 ∷ []
 failure_text cause.NoWorker = codes "silo: no worker" ++ 10 ∷ []
 failure_text cause.Strayed = codes "silo: lanes strayed" ++ 10 ∷ []
+failure_text cause.InUse = codes "silo: the data are in use" ++ 10 ∷ []
 
 -- the line that tells which line of a journal is refused
 abbrev pub no_journal_text : ℕ → List ℕ
@@ -32,7 +33,7 @@ told_text (fault.NoJournal text) = string_bytes text
 
 -- ---- the status
 
--- 1 if the program failed, 2 if it refuses its arguments, and 4 if it refuses a journal
+-- 1 if the program failed, 2 if it refuses its arguments, or a log of other words, and 4 if it refuses a journal or a log
 abbrev pub status_of : ProgramFault → ℕ
 status_of (fault.Failed why) = 1
 status_of (fault.Refused text) = 2

@@ -38,6 +38,9 @@ pub enum Cause {
     /// What the threads left isn't what serving the lanes leaves.
     #[error("lanes strayed")]
     Strayed,
+    /// Another process has the folder of data.
+    #[error("the data are in use")]
+    InUse,
 }
 
 /// Why the program doesn't do what it is asked for.
@@ -46,10 +49,10 @@ pub enum ProgramFault {
     /// It failed.
     #[error("{0}")]
     Failed(Cause),
-    /// The arguments are refused, with what is said of them.
+    /// The arguments are refused, or the folder of data has a log of other words, with what is said of that.
     #[error("{0}")]
     Refused(String),
-    /// The file has no journal, with what is said of it.
+    /// The file has no journal, or the log of the folder of data is refused, with what is said of that.
     #[error("{0}")]
     NoJournal(String),
 }
@@ -57,13 +60,13 @@ pub enum ProgramFault {
 /// The status if a tenant differs.
 const DIFFERS_STATUS: u8 = 3;
 
-/// The status after a fault of reading, of writing, of memory or of threads, or after too much input.
+/// The status after a fault of reading, of writing, of memory or of threads, after too much input, or if the data are in use.
 const FAILED_STATUS: u8 = 1;
 
-/// The status after a fault of the arguments.
+/// The status after a fault of the arguments, or if the data have other words.
 const ARGUMENTS_STATUS: u8 = 2;
 
-/// The status if the file has no journal.
+/// The status if the file has no journal, or the log is refused.
 const NO_JOURNAL_STATUS: u8 = 4;
 
 /// What a fault of the lines is to the program.
@@ -108,6 +111,7 @@ fn failure_line(cause: Cause) -> &'static str
         Cause::TooMuch => "silo: too much input\n",
         Cause::NoWorker => "silo: no worker\n",
         Cause::Strayed => "silo: lanes strayed\n",
+        Cause::InUse => "silo: the data are in use\n",
     }
 }
 

@@ -1,9 +1,11 @@
 //! Files that are read whole and written whole, and one in memory.
 
-ghost use Rattle.std.specs.Prelude.{◌≡◌, ◌≢◌, ◌↔◌, ◌⊎◌, ⊤, ℕ, List, IfOk, IfErr, OnOk, OnErr, IsErrOf, string_bytes};
+ghost use Rattle.std.specs.Prelude.{◌≡◌, ◌≢◌, ◌↔◌, ◌⊎◌, ⊤, ℕ, List, IfOk, IfErr, None, OnOk, OnErr, IsErrOf, string_bytes, true};
 
+use line_protocol::Output;
+use log_host::{HostFault, LogFiles, LogHost, MemoryLog, OpenFault};
 use std::alloc::Global;
-use std::io::{self, ErrorKind};
+use std::io::{self, ErrorKind, Write};
 use thiserror::Error;
 
 /// Why a file was not read or not written.
@@ -49,8 +51,21 @@ pub trait WholeFiles {
         ensures fault { IfErr result (λ why. why ≢ FileFault.Memory → may_fail self.old path.now) };
 }
 
+/// What keeps the log of a folder of data.
+pub trait DataFiles: LogFiles {
+    /// From now on the log is brought to the disk where it is to be; or, without sync, nothing is done then.
+    fn set_sync(&mut self, sync: bool)
+        ensures synced { sync ≡ true → (Self.acts self.new ≡ Self.acts self.old) × (Self.begun self.new ≡ Self.begun self.old) }
+        ensures failed { Self.failed self.new ≡ Self.failed self.old };
+}
+
+/// It is always brought there.
+impl DataFiles for MemoryLog {
+    fn set_sync(&mut self, _sync: bool) {}
+}
+
 /// One file in memory, of which the clauses of `WholeFiles` say most; the program has the host's. Every other path
-/// fails.
+/// fails, and there is no folder of data.
 #[derive(Drop)]
 pub struct MemoryFile {
     pub path: String,
@@ -96,4 +111,42 @@ impl WholeFiles for MemoryFile {
             Err(_) => Err(FileFault::Memory),
         }
     }
+}
+
+impl LogHost for MemoryFile {
+    ghost begun = { λ _. None };
+
+    ghost acts = { λ _. None };
+
+    ghost failed = { λ _. true };
+
+    fn append(&mut self, _bytes: &[u8]) -> Result<(), HostFault> {
+        Err(HostFault)
+    }
+
+    fn sync(&mut self) -> Result<(), HostFault> {
+        Err(HostFault)
+    }
+
+    fn tell<W: Write>(&mut self, _output: &mut Output<W>, _bytes: &[u8]) -> Result<(), HostFault> {
+        Err(HostFault)
+    }
+}
+
+impl LogFiles for MemoryFile {
+    fn open(&mut self, _alloc: Global, _path: &str) -> Result<Option<Vec<u8>>, OpenFault> {
+        Err(OpenFault::Write)
+    }
+
+    fn begin(&mut self, _head: &[u8]) -> Result<(), HostFault> {
+        Err(HostFault)
+    }
+
+    fn keep(&mut self, _length: usize) -> Result<(), HostFault> {
+        Err(HostFault)
+    }
+}
+
+impl DataFiles for MemoryFile {
+    fn set_sync(&mut self, _sync: bool) {}
 }

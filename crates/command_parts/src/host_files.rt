@@ -4,6 +4,7 @@ ghost use Rattle.std.specs.Prelude.{◌≡◌, None};
 
 use crate::counted_reader::{CountedReader, read_to_end};
 use crate::files::{FileFault, WholeFiles, fault_of};
+use crate::host_logs::HostData;
 use host_writing::TriedPath;
 use std::alloc::Global;
 use std::fs::File;
@@ -14,21 +15,26 @@ use std::rt::Files;
 /// is written next takes its place, and a pipe or a device is opened then, and gets what is written next. At a path where nothing is,
 /// what is written first is the file.
 #[derive(Drop)]
-pub struct HostFiles<'a, R: Files> {
-    rt: &'a R,
-    tried: Option<TriedPath<R::File>>,
+pub struct HostFiles<'a, R> {
+    pub(crate) rt: &'a R,
+    pub(crate) data: HostData<'a, R>,
+    tried: Option<TriedPath<File>>,
 }
 
-impl<'a, R: Files> HostFiles<'a, R> {
-    /// No path was tried yet.
+impl<'a, R> HostFiles<'a, R> {
+    /// No path was tried yet, and no folder of data is open.
     pub fn new(rt: &'a R) -> HostFiles<'a, R>
         ensures { result.tried ≡ None }
     {
-        HostFiles { rt, tried: None }
+        HostFiles {
+            rt,
+            data: HostData::new(),
+            tried: None,
+        }
     }
 }
 
-impl<R: Files + AllocGlobal + RandomSource> WholeFiles for HostFiles<'_, R> {
+impl<R: Files<File = File> + AllocGlobal + RandomSource> WholeFiles for HostFiles<'_, R> {
     fn read_whole(&self, alloc: Global, path: &str) -> Result<Vec<u8>, FileFault> {
         match File::open(self.rt, path) {
             Ok(file) => read_to_end(alloc, &mut CountedReader::new(file)),

@@ -82,6 +82,7 @@ AuditFailsBy may_hold may_fail cause.TooMuch before after writing = may_fail × 
 AuditFailsBy may_hold may_fail cause.NoWorker before after writing =
     ((journal : History) × MayHoldJournal may_hold journal) × Keeps before after
 AuditFailsBy may_hold may_fail cause.Strayed before after writing = ⊥
+AuditFailsBy may_hold may_fail cause.InUse before after writing = ⊥
 
 -- What is said of a file that has no journal, and nothing was written.
 pub record RefusesFile (may_hold : List ℕ → Type 0) (text : List ℕ) (before after : Option (List ℕ)) : Type 0 where

@@ -38,6 +38,7 @@ MigrationFailsBy may_hold may_fail cause.Memory before after writing = Keeps bef
 MigrationFailsBy may_hold may_fail cause.TooMuch before after writing = may_fail × Keeps before after
 MigrationFailsBy may_hold may_fail cause.NoWorker before after writing = ⊥
 MigrationFailsBy may_hold may_fail cause.Strayed before after writing = ⊥
+MigrationFailsBy may_hold may_fail cause.InUse before after writing = ⊥
 
 -- why the journal of a file isn't migrated
 abbrev pub IsMigrationFault : (List ℕ → Type 0) → Type 0 → ProgramFault → Option (List ℕ) → Option (List ℕ) → WriterCalls → Type 0

@@ -208,6 +208,7 @@ module _ (setup : Setup) (sends : ℕ) (files : FileClaims) (journal from : Opti
   not_begun reading before writing cause.TooMuch is = absurd is
   not_begun reading before writing cause.NoWorker is = absurd is
   not_begun reading before writing cause.Strayed is = absurd is
+  not_begun reading before writing cause.InUse is = absurd is
 
   module _ (left : Option (List ℕ)) (reading : Reading) (before after : Option (List ℕ)) (writing : WriterCalls) (silo : History) (unfailed : silo.failures.now ≡ 0) where
     lacks_memory : (ended : Option LineFault) → AnswersInput setup sends ended silo from left reading before after writing → AnsweringFailsBy setup sends files journal cause.Memory from left reading before after writing
@@ -222,6 +223,7 @@ module _ (setup : Setup) (sends : ℕ) (files : FileClaims) (journal from : Opti
     not_kept fails cause.TooMuch answered is again = absurd is
     not_kept fails cause.NoWorker answered is again = absurd is
     not_kept fails cause.Strayed answered is again = absurd is
+    not_kept fails cause.InUse answered is again = absurd is
 
     -- in a line
     ends_with : (by why : Cause) → why ≡ by → AnsweringFailsBy setup sends files journal by from left reading before after writing → AnsweringFailsBy setup sends files journal why from left reading before after writing

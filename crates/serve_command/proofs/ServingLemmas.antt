@@ -46,6 +46,7 @@ not_begun setup files journal from reading before writing cause.Memory is = inl 
 not_begun setup files journal from reading before writing cause.TooMuch is = absurd is
 not_begun setup files journal from reading before writing cause.NoWorker is = absurd is
 not_begun setup files journal from reading before writing cause.Strayed is = absurd is
+not_begun setup files journal from reading before writing cause.InUse is = absurd is
 
 -- behind the first journal
 module _ (setup : Setup) (files : FileClaims) (journal : Option (List ℕ)) (from left : Option (List ℕ)) (reading : ReaderCalls) (before : Option (List ℕ)) (writing : WriterCalls) (first : WritesFirst setup files journal) where
@@ -117,6 +118,7 @@ module _ (setup : Setup) (files : FileClaims) (journal : Option (List ℕ)) (fro
   not_kept fails cause.TooMuch is again = absurd is
   not_kept fails cause.NoWorker is again = absurd is
   not_kept fails cause.Strayed is again = absurd is
+  not_kept fails cause.InUse is again = absurd is
 
   -- but their text wasn't written whole
   by_fault : (why : LineFault) → KeepsSecond setup files journal outcome.silo → StopsWriting why (outcome_lines outcome) before after → (why ≡ line.Write → writing.failed ≡ true)

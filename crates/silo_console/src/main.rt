@@ -6,6 +6,7 @@ use host_writing::LimitedWriter;
 use silo_program::{
     Cause, HostFiles, Input, Output, ProgramFault, refuse_words, run_program, tell,
 };
+use std::fs::File;
 use std::io::{BufWriter, Read, Write};
 use std::process::ExitCode;
 use std::random::RandomSource;
@@ -33,7 +34,7 @@ fn words_of<H: Env + AllocGlobal>(rt: &H) -> io::Result<Vec<String>> {
 /// Runs the program over the host's files and these streams, and answers its status.
 fn run<H, I, O, E>(rt: &H, stdin: I, stdout: O, stderr: E) -> u8
 where
-    H: Env + AllocGlobal + Files + RandomSource + Threads + Wait + Sync,
+    H: Env + AllocGlobal + Files<File = File> + RandomSource + Threads + Wait + Sync,
     I: Read + Drop,
     O: Write + Drop,
     E: Write + Drop,

@@ -1,37 +1,46 @@
 -- What the program says of a fault, by the status that it ends with.
 use Rattle.command_parts.specs.declared.failure.Cause.{Cause}
 use Rattle.command_parts.specs.declared.failure.End.{End}
-use Rattle.silo_program.specs.Ends.{AreRefusedBy, EndsAs, FailsBy, IsFaultOf}
+use Rattle.silo_program.specs.Ends.{AreRefusedBy, EndsAs, FailsBy, IsFaultOf, RefusesFolder}
+use Rattle.data_command.specs.Data.{LogClaims}
 use Rattle.command_parts.specs.Files.{FileClaims}
-use Rattle.std.proofs.Common.{List, Option, ℕ, ◌≡◌, ◌≢◌}
+use Rattle.std.proofs.Common.{List, Option, inl, inr, ℕ, ⊎_elim, ◌≡◌, ◌≢◌, ◌⊎◌}
 use Rattle.command_parts.specs.declared.failure.ProgramFault.{ProgramFault}
 use Rattle.line_protocol.specs.Reading.{Reading}
 use Rattle.clap.specs.Words.{Text}
 use Rattle.line_protocol.specs.declared.written.WriterCalls.{WriterCalls}
 use Rattle.std.specs.Prelude.{string_bytes}
-use Rattle.command_parts.specs.Streams.{Tells, TellsEnd}
+use Rattle.command_parts.specs.Streams.{IsUnbegun, Tells, TellsEnd}
 use Rattle.command_parts.specs.Status.{end_status, failure_text, status_of, told_text}
 use Rattle.command_parts.specs.declared.failure.End.TheVariants as end
 use Rattle.command_parts.specs.declared.failure.ProgramFault.TheVariants as fault
 
-module _ (words : List Text) (files : FileClaims) (from left : Option (List ℕ)) (reading : Reading) (before after : Option (List ℕ)) (writing : WriterCalls) (said told : Option (List ℕ)) (telling : WriterCalls) where
+module _ (words : List Text) (files : FileClaims) (log : LogClaims) (from left : Option (List ℕ)) (reading : Reading) (before after : Option (List ℕ)) (writing : WriterCalls) (said told : Option (List ℕ)) (telling : WriterCalls) where
   -- with status 1 the program failed
-  pub failed_by : (why : ProgramFault) → status_of why ≡ 1 → IsFaultOf words files why from left reading before after writing → Tells said told telling (told_text why)
-      → (cause : Cause) × FailsBy words files cause from left reading before after writing × Tells said told telling (failure_text cause)
+  pub failed_by : (why : ProgramFault) → status_of why ≡ 1 → IsFaultOf words files log why from left reading before after writing → Tells said told telling (told_text why)
+      → (cause : Cause) × FailsBy words files log cause from left reading before after writing × Tells said told telling (failure_text cause)
   failed_by (fault.Failed why) one is tells = (why, is, tells)
   failed_by (fault.Refused text) one is tells = absurd (cc (one))
   failed_by (fault.NoJournal text) one is tells = absurd (cc (one))
 
   -- with status 2 the words are refused
-  pub refused_by : (why : ProgramFault) → status_of why ≡ 2 → IsFaultOf words files why from left reading before after writing → Tells said told telling (told_text why)
-      → (text : Text) × AreRefusedBy words text × Tells said told telling text
+  pub refused_by : (why : ProgramFault) → status_of why ≡ 2 → IsFaultOf words files log why from left reading before after writing → Tells said told telling (told_text why)
+      → (text : Text) × ((AreRefusedBy words text × files.same) ⊎ RefusesFolder words log text from left reading before after) × Tells said told telling text
   refused_by (fault.Failed why) two is tells = absurd (cc (two))
-  refused_by (fault.Refused text) two is tells = (string_bytes text, is.0, tells)
+  refused_by (fault.Refused text) two is tells =
+      (string_bytes text, ⊎_elim (λ words_so. inl (words_so.0, words_so.3)) (λ folder_so. inr folder_so) is, tells)
   refused_by (fault.NoJournal text) two is tells = absurd (cc (two))
 
 -- with status 0 all is well, and what is told of it is told
-pub ends_well : (how : End) (words : List Text) (files : FileClaims) (from left before after said told : Option (List ℕ)) (writing : WriterCalls) → end_status how ≡ 0 → EndsAs how words files from left before after → TellsEnd said told writing how
-    → (how : End) × (how ≢ end.Differs) × EndsAs how words files from left before after × TellsEnd said told writing how
-ends_well end.Well words files from left before after said told writing zero is tells = (end.Well, (λ e. absurd (cc e)), is, tells)
-ends_well (end.Told text) words files from left before after said told writing zero is tells = (end.Told text, (λ e. absurd (cc e)), is, tells)
-ends_well end.Differs words files from left before after said told writing zero is tells = absurd (cc (zero))
+pub ends_well : (how : End) (words : List Text) (files : FileClaims) (log : LogClaims) (from left before after said told : Option (List ℕ)) (writing : WriterCalls) → end_status how ≡ 0 → EndsAs how words files log from left before after → TellsEnd said told writing how
+    → (how : End) × (how ≢ end.Differs) × EndsAs how words files log from left before after × TellsEnd said told writing how
+ends_well end.Well words files log from left before after said told writing zero is tells = (end.Well, (λ e. absurd (cc e)), is, tells)
+ends_well (end.Told text) words files log from left before after said told writing zero is tells = (end.Told text, (λ e. absurd (cc e)), is, tells)
+ends_well end.Differs words files log from left before after said told writing zero is tells = absurd (cc (zero))
+
+-- ---- nothing was read and nothing written
+
+module _ (words : List Text) (log : LogClaims) (text : Text) (from left : Option (List ℕ)) (reading : Reading) (before after : Option (List ℕ)) where
+  -- if the data have other words
+  pub folder_unbegun : RefusesFolder words log text from left reading before after → IsUnbegun from left before after
+  folder_unbegun is = ⊎_elim (λ start. start.1) (λ run. absurd run) is.refused

@@ -2,10 +2,17 @@
 use Rattle.idle_collector.specs.Ages.{Ages}
 use Rattle.command_parts.specs.declared.failure.Cause.{Cause}
 use Rattle.command_parts.specs.declared.failure.End.{End}
-use Rattle.silo_program.specs.Ends.{AskForJournal, EndsAs, EndsServing, IsAnsweringFault, IsFaultOf, IsNamingFault, IsServingFault}
-use Rattle.silo_program.specs.Ends.{IsStreamFault, LeavesFiles, ServesInput, ShowsText, WritesAnswered, WritesJournal}
+use Rattle.data_command.specs.Data.{AnswersData, DataFailsBy, DataLasts, HasInput, LogClaims}
+use Rattle.data_command.specs.Texts.{IsDataFault}
+use Rattle.data_command.specs.declared.fault.DataFault.{DataFault}
+use Rattle.data_command.specs.declared.fault.DataFault.TheVariants as data_fault
+use Rattle.silo_program.specs.Ends.{AnswersInFolder, AskForFolder, AskForJournal, AskForKeeping, EndsAs, EndsServing, IsAnsweringFault, IsFaultOf, IsFolderFault}
+use Rattle.silo_program.specs.Ends.{IsNamingFault, IsServingFault, IsStreamFault, KeepsFolder, LeavesFiles, ServesInput, ShowsText, WritesAnswered}
+use Rattle.silo_program.specs.Ends.{WritesJournal}
 use Rattle.command_parts.specs.Files.{FileClaims}
-use Rattle.std.proofs.Common.{IfErr, IfOk, List, None, Option, Result, Some, [], inl, inr, refl, subst, sym, ℕ, ⊎_elim, ◌≡◌}
+use Rattle.command_parts.specs.Streams.{IsUnbegun}
+use Rattle.command_parts.specs.declared.failure.Cause.TheVariants as cause
+use Rattle.std.proofs.Common.{Bool, IfErr, IfOk, List, None, Option, Result, Some, [], inl, inr, refl, subst, sym, true, ℕ, ⊎_elim, ◌≡◌, ◌⊎◌}
 use Rattle.std.proofs.lemmas.Result.{IfErr-weaker, IfOk-weaker}
 use Rattle.std.specs.Io.KnownBytes.{Keeps}
 use Rattle.std.proofs.KnownBytes.{Keeps-refl}
@@ -19,7 +26,7 @@ use Rattle.line_commands.specs.Answering.{WritesJournalsAtMost}
 use Rattle.command_parts.specs.Setups.{setup_of}
 use Rattle.silo_words.specs.Ages.{IsWhyNoAges, NamesAges}
 use Rattle.silo_words.specs.Tenants.{IsReason, NameTenants}
-use Rattle.silo_words.specs.Words.{AskForAnswering, AskForAudit, AskForMigration, AskForServing, AskForSteps}
+use Rattle.silo_words.specs.Words.{AskForAnswering, AskForAudit, AskForData, AskForMigration, AskForServing, AskForSteps}
 use Rattle.silo_words.specs.declared.task.Telling.{Telling}
 use Rattle.silo_program.specs.Arguments.{IsAgesFault, IsTenantsFault}
 use Rattle.journal_commands.specs.Auditing.{AuditsFile}
@@ -33,10 +40,10 @@ use Rattle.journal_commands.specs.Migrating.{IsMigrationFault}
 
 -- ---- what was written to files
 
-module _ (words : List Text) (files : FileClaims) (from left : Option (List ℕ)) (workers age : ℕ) (given : Option Text) (tenants : Table) (ages : Ages) (arguments : List Text) where
+module _ (words : List Text) (files : FileClaims) (log : LogClaims) (from left : Option (List ℕ)) (workers age : ℕ) (given : Option Text) (tenants : Table) (ages : Ages) (arguments : List Text) where
   -- of what the words ask for
   pub files_left : (journal : Option Text) (telling : Telling) → AskForServing words workers age given journal telling arguments → NameTenants arguments tenants × NamesAges given ages → WritesJournalAtMost (setup_of tenants age ages) files journal from left
-      → LeavesFiles words files from left
+      → LeavesFiles words files log from left
   files_left None telling asked named same = inl same
   files_left (Some path) telling asked named is =
       ⊎_elim (λ same. inl same)
@@ -52,11 +59,12 @@ module _ (words : List Text) (files : FileClaims) (from left : Option (List ℕ)
       }))) is
 
 -- no journal is asked for
-pub untouched : (words : List Text) (files : FileClaims) (from left : Option (List ℕ)) → LeavesFiles words files from left → ((path : Text) → ¬ AskForJournal words path) → files.same
-untouched words files from left leaves never =
-    ⊎_elim (λ same. same)
-    (λ written. ⊎_elim (λ (w : WritesJournal words files from left). absurd (never w.path (inl (w.workers, w.age, w.asked.given, w.telling, w.asked.arguments, w.asked.asked))))
-    (λ (w : WritesAnswered words files from). absurd (never w.path (inr (w.age, w.asked.given, w.sends, w.asked.arguments, w.asked.asked)))) written) leaves
+pub untouched : (words : List Text) (files : FileClaims) (log : LogClaims) (from left : Option (List ℕ)) → LeavesFiles words files log from left → ((path : Text) → ¬ AskForJournal words path) → ((folder : Text) → ¬ AskForFolder words folder)
+    → files.same
+untouched words files log from left (inl same) never none = same
+untouched words files log from left (inr (inl w)) never none = absurd (never w.path (inl (w.workers, w.age, w.asked.given, w.telling, w.asked.arguments, w.asked.asked)))
+untouched words files log from left (inr (inr (inl w))) never none = absurd (never w.path (inr (w.age, w.asked.given, w.sends, w.asked.arguments, w.asked.asked)))
+untouched words files log from left (inr (inr (inr k))) never none = absurd (none k.folder (k.age, k.asked.given, k.sends, k.sync, k.asked.arguments, k.asked.asked))
 
 -- ---- tenants and ages aren't named
 
@@ -98,37 +106,46 @@ module _ (words : List Text) (from : Option (List ℕ)) (reading : Reading) (bef
     answering_refused age sends journal asked (fault.Failed why) is =
         subst (λ (c : Cause). IsAnsweringFault words files (fault.Failed c) from from reading before before writing) (sym is) (inl (Keeps-refl from, Keeps-refl before))
     answering_refused age sends journal asked (fault.Refused text) is =
-        (inr (record { given = given; arguments = arguments; asked = inr (inr (age, sends, journal, asked)); why = is }), Keeps-refl from, Keeps-refl before, same)
+        (inr (record { given = given; arguments = arguments; asked = inr (inr (inl (age, sends, journal, asked))); why = is }), Keeps-refl from, Keeps-refl before, same)
     answering_refused age sends journal asked (fault.NoJournal text) is = absurd is
+
+    -- nor with a folder of data
+    pub folder_refused : (log : LogClaims) (age sends : ℕ) (folder : Text) (sync : Bool) → AskForData words age given sends folder sync arguments → (told : ProgramFault) → IsNamingFault given arguments told
+        → IsFolderFault words files log told from from reading before before writing
+    folder_refused log age sends folder sync asked (fault.Failed why) is =
+        subst (λ (c : Cause). IsFolderFault words files log (fault.Failed c) from from reading before before writing) (sym is) (inl (Keeps-refl from, Keeps-refl before))
+    folder_refused log age sends folder sync asked (fault.Refused text) is =
+        inl (inr (record { given = given; arguments = arguments; asked = inr (inr (inr (age, sends, folder, sync, asked))); why = is }), Keeps-refl from, Keeps-refl before, same)
+    folder_refused log age sends folder sync asked (fault.NoJournal text) is = absurd is
 
 -- ---- a text was asked for
 
-module _ (words : List Text) (files : FileClaims) (from left before after : Option (List ℕ)) where
-  shown : (how : End) → (how ≡ end.Well) × ShowsText words from left before after → EndsAs how words files from left before after
-  shown how is = subst (λ (e : End). EndsAs e words files from left before after) (sym is.0) (inl (inl is.1))
+module _ (words : List Text) (files : FileClaims) (log : LogClaims) (from left before after : Option (List ℕ)) where
+  shown : (how : End) → (how ≡ end.Well) × ShowsText words from left before after → EndsAs how words files log from left before after
+  shown how is = subst (λ (e : End). EndsAs e words files log from left before after) (sym is.0) (inl (inl is.1))
 
-  pub ends_shown : {E : Type 0} (result : Result End E) → IfOk result (λ how. (how ≡ end.Well) × ShowsText words from left before after) → IfOk result (λ how. EndsAs how words files from left before after)
-  ends_shown result is = IfOk-weaker result (λ how. (how ≡ end.Well) × ShowsText words from left before after) (λ how. EndsAs how words files from left before after) shown is
+  pub ends_shown : {E : Type 0} (result : Result End E) → IfOk result (λ how. (how ≡ end.Well) × ShowsText words from left before after) → IfOk result (λ how. EndsAs how words files log from left before after)
+  ends_shown result is = IfOk-weaker result (λ how. (how ≡ end.Well) × ShowsText words from left before after) (λ how. EndsAs how words files log from left before after) shown is
 
-module _ (words : List Text) (files : FileClaims) (from left : Option (List ℕ)) (reading : Reading) (before after : Option (List ℕ)) (writing : WriterCalls) (same : files.same) where
-  stream_fault : (why : ProgramFault) → IsStreamFault words why from left reading before after writing → IsFaultOf words files why from left reading before after writing
+module _ (words : List Text) (files : FileClaims) (log : LogClaims) (from left : Option (List ℕ)) (reading : Reading) (before after : Option (List ℕ)) (writing : WriterCalls) (same : files.same) where
+  stream_fault : (why : ProgramFault) → IsStreamFault words why from left reading before after writing → IsFaultOf words files log why from left reading before after writing
   stream_fault (fault.Failed why) is = ⊎_elim (λ early. inl (inl early)) (λ steps. inr (inl steps)) is
-  stream_fault (fault.Refused text) is = (is.0, is.1, is.2, same)
+  stream_fault (fault.Refused text) is = inl (is.0, is.1, is.2, same)
   stream_fault (fault.NoJournal text) is = absurd is
 
-  pub stream_faults : {T : Type 0} (result : Result T ProgramFault) → IfErr result (λ why. IsStreamFault words why from left reading before after writing) → IfErr result (λ why. IsFaultOf words files why from left reading before after writing)
-  stream_faults result is = IfErr-weaker result (λ why. IsStreamFault words why from left reading before after writing) (λ why. IsFaultOf words files why from left reading before after writing) stream_fault is
+  pub stream_faults : {T : Type 0} (result : Result T ProgramFault) → IfErr result (λ why. IsStreamFault words why from left reading before after writing) → IfErr result (λ why. IsFaultOf words files log why from left reading before after writing)
+  stream_faults result is = IfErr-weaker result (λ why. IsStreamFault words why from left reading before after writing) (λ why. IsFaultOf words files log why from left reading before after writing) stream_fault is
 
 -- ---- lines are answered at once
 
-module _ (words : List Text) (files : FileClaims) (from left : Option (List ℕ)) (age : ℕ) (given : Option Text) (sends : ℕ) (tenants : Table) (ages : Ages) (arguments : List Text) where
+module _ (words : List Text) (files : FileClaims) (log : LogClaims) (from left : Option (List ℕ)) (age : ℕ) (given : Option Text) (sends : ℕ) (tenants : Table) (ages : Ages) (arguments : List Text) where
   -- of what the words ask for
   pub answered_left : (journal : Option Text) → AskForAnswering words age given sends journal arguments → NameTenants arguments tenants × NamesAges given ages → WritesJournalsAtMost (setup_of tenants age ages) sends files journal from
-      → LeavesFiles words files from left
+      → LeavesFiles words files log from left
   answered_left None asked named same = inl same
   answered_left (Some path) asked named is =
       ⊎_elim (λ same. inl same)
-      (λ written. inr (inr (record {
+      (λ written. inr (inr (inl (record {
         tenants = tenants;
         age = age;
         ages = ages;
@@ -136,7 +153,69 @@ module _ (words : List Text) (files : FileClaims) (from left : Option (List ℕ)
         path = path;
         asked = record { given = given; arguments = arguments; asked = asked; named = named.0; aged = named.1 };
         written = written;
-      }))) is
+      })))) is
+
+-- ---- lines are answered at once, with a folder of data
+
+module _ (words : List Text) (files : FileClaims) (log : LogClaims) (from left : Option (List ℕ)) (age : ℕ) (given : Option Text) (sends : ℕ) (folder : Text) (sync : Bool) (tenants : Table) (ages : Ages) (arguments : List Text) where
+  -- what the words ask for lasts
+  pub folder_left : AskForData words age given sends folder sync arguments → NameTenants arguments tenants × NamesAges given ages → (sync ≡ true → DataLasts (setup_of tenants age ages) sends log) → LeavesFiles words files log from left
+  folder_left asked named lasts = inr (inr (inr (record {
+    tenants = tenants;
+    age = age;
+    ages = ages;
+    sends = sends;
+    folder = folder;
+    sync = sync;
+    asked = record { given = given; arguments = arguments; asked = asked; named = named.0; aged = named.1 };
+    lasts = lasts;
+  })))
+
+  keeping : AskForData words age given sends folder sync arguments → NameTenants arguments tenants × NamesAges given ages → AskForKeeping words tenants age ages sends folder sync
+  keeping asked named = record { given = given; arguments = arguments; asked = asked; named = named.0; aged = named.1 }
+
+  module _ (before after : Option (List ℕ)) where
+    -- nothing was read or written yet
+    unbegun : {A : Type 0} → (A × IsUnbegun from left before after) ⊎ ⊥ → IsUnbegun from left before after
+    unbegun (inl start) = start.1
+    unbegun (inr run) = absurd run
+
+    -- and there is no memory for what is to be said
+    lacks_memory : (reading : Reading) (writing : WriterCalls) (why : Cause) → why ≡ cause.Memory → IsUnbegun from left before after → IsFolderFault words files log (fault.Failed why) from left reading before after writing
+    lacks_memory reading writing why is none = subst (λ (c : Cause). IsFolderFault words files log (fault.Failed c) from left reading before after writing) (sym is) (inl (none.0, none.1))
+
+    -- all was answered
+    pub folder_answered : AskForData words age given sends folder sync arguments → NameTenants arguments tenants × NamesAges given ages → AnswersData (setup_of tenants age ages) sends log from left before after
+        → (sync ≡ true → HasInput (setup_of tenants age ages) sends log from) → AnswersInFolder words log from left before after
+    folder_answered asked named answered has = record {
+      tenants = tenants;
+      age = age;
+      ages = ages;
+      sends = sends;
+      folder = folder;
+      sync = sync;
+      asked = keeping asked named;
+      answered = answered;
+      has = has;
+    }
+
+    -- it wasn't, and this is said
+    pub folder_failed : (reading : Reading) (writing : WriterCalls) → AskForData words age given sends folder sync arguments → NameTenants arguments tenants × NamesAges given ages → (why : DataFault) (told : ProgramFault) → IsDataFault why told
+        → DataFailsBy (setup_of tenants age ages) sends log why from left reading before after → IsFolderFault words files log told from left reading before after writing
+    folder_failed reading writing asked named (data_fault.Failed why) told is fails = subst (λ (f : ProgramFault). IsFolderFault words files log f from left reading before after writing) (sym is)
+        (inr (record { tenants = tenants; age = age; ages = ages; sends = sends; folder = folder; sync = sync; asked = keeping asked named; failed = fails }))
+    folder_failed reading writing asked named data_fault.OtherWords (fault.Failed why) is fails = lacks_memory reading writing why is (unbegun fails)
+    folder_failed reading writing asked named data_fault.OtherWords (fault.Refused text) is fails =
+        inr (record { tenants = tenants; age = age; ages = ages; sends = sends; folder = folder; sync = sync; asked = keeping asked named; refused = fails; said = is })
+    folder_failed reading writing asked named data_fault.OtherWords (fault.NoJournal text) is fails = absurd is
+    folder_failed reading writing asked named (data_fault.Refused line) (fault.Failed why) is fails = lacks_memory reading writing why is (unbegun fails)
+    folder_failed reading writing asked named (data_fault.Refused line) (fault.Refused text) is fails = absurd is
+    folder_failed reading writing asked named (data_fault.Refused line) (fault.NoJournal text) is fails =
+        record { tenants = tenants; age = age; ages = ages; sends = sends; folder = folder; sync = sync; asked = keeping asked named; line = line; refused = inl (fails, is) }
+    folder_failed reading writing asked named (data_fault.Otherwise line) (fault.Failed why) is fails = lacks_memory reading writing why is (unbegun fails)
+    folder_failed reading writing asked named (data_fault.Otherwise line) (fault.Refused text) is fails = absurd is
+    folder_failed reading writing asked named (data_fault.Otherwise line) (fault.NoJournal text) is fails =
+        record { tenants = tenants; age = age; ages = ages; sends = sends; folder = folder; sync = sync; asked = keeping asked named; line = line; refused = inr (fails, is) }
 
 -- ---- how lines that were served end
 
@@ -154,33 +233,34 @@ module _ (words : List Text) (files : FileClaims) (telling : Telling) (from left
     served = served;
   }
 
-  served_end : (how : End) → EndsServing how words files telling from left before after → EndsAs how words files from left before after
+module _ (words : List Text) (files : FileClaims) (log : LogClaims) (telling : Telling) (from left before after : Option (List ℕ)) where
+  served_end : (how : End) → EndsServing how words files telling from left before after → EndsAs how words files log from left before after
   served_end end.Well is = inr (inr (inl (subst (λ (t : Telling). ServesInput words files t from left before after []) is.0 is.1)))
   served_end (end.Told text) is = (telling, is.0, is.1)
   served_end end.Differs is = absurd is
 
-  pub ends_served : {E : Type 0} (result : Result End E) → IfOk result (λ how. EndsServing how words files telling from left before after) → IfOk result (λ how. EndsAs how words files from left before after)
-  ends_served result is = IfOk-weaker result (λ how. EndsServing how words files telling from left before after) (λ how. EndsAs how words files from left before after) served_end is
+  pub ends_served : {E : Type 0} (result : Result End E) → IfOk result (λ how. EndsServing how words files telling from left before after) → IfOk result (λ how. EndsAs how words files log from left before after)
+  ends_served result is = IfOk-weaker result (λ how. EndsServing how words files telling from left before after) (λ how. EndsAs how words files log from left before after) served_end is
 
 -- a journal was audited
-module _ (words : List Text) (files : FileClaims) (path : Text) (asked : AskForAudit words path) (same : files.same) (from left before after : Option (List ℕ)) (kept : Keeps from left) where
-  audited_end : (how : End) → AuditsFile (files.may_hold path) how before after → EndsAs how words files from left before after
-  audited_end end.Well is = inr (inr (inr (inr (record { path = path; asked = asked; kept = kept; unwritten = same; audited = is }))))
+module _ (words : List Text) (files : FileClaims) (log : LogClaims) (path : Text) (asked : AskForAudit words path) (same : files.same) (from left before after : Option (List ℕ)) (kept : Keeps from left) where
+  audited_end : (how : End) → AuditsFile (files.may_hold path) how before after → EndsAs how words files log from left before after
+  audited_end end.Well is = inr (inr (inr (inr (inr (record { path = path; asked = asked; kept = kept; unwritten = same; audited = is })))))
   audited_end (end.Told text) is = absurd is.found
   audited_end end.Differs is = record { path = path; asked = asked; kept = kept; unwritten = same; audited = is }
 
-  pub ends_audited : {E : Type 0} (result : Result End E) → IfOk result (λ how. AuditsFile (files.may_hold path) how before after) → IfOk result (λ how. EndsAs how words files from left before after)
-  ends_audited result is = IfOk-weaker result (λ how. AuditsFile (files.may_hold path) how before after) (λ how. EndsAs how words files from left before after) audited_end is
+  pub ends_audited : {E : Type 0} (result : Result End E) → IfOk result (λ how. AuditsFile (files.may_hold path) how before after) → IfOk result (λ how. EndsAs how words files log from left before after)
+  ends_audited result is = IfOk-weaker result (λ how. AuditsFile (files.may_hold path) how before after) (λ how. EndsAs how words files log from left before after) audited_end is
 
 -- ---- it isn't migrated
 
-module _ (words : List Text) (files : FileClaims) (path : Text) (asked : AskForMigration words path) (same : files.same) (from left : Option (List ℕ)) (reading : Reading) (before after : Option (List ℕ)) (writing : WriterCalls) (kept : Keeps from left) where
-  migration_fault : (why : ProgramFault) → IsMigrationFault (files.may_hold path) (files.may_fail path) why before after writing → IsFaultOf words files why from left reading before after writing
+module _ (words : List Text) (files : FileClaims) (log : LogClaims) (path : Text) (asked : AskForMigration words path) (same : files.same) (from left : Option (List ℕ)) (reading : Reading) (before after : Option (List ℕ)) (writing : WriterCalls) (kept : Keeps from left) where
+  migration_fault : (why : ProgramFault) → IsMigrationFault (files.may_hold path) (files.may_fail path) why before after writing → IsFaultOf words files log why from left reading before after writing
   migration_fault (fault.Failed why) is = inl (inr (record { path = path; asked = asked; kept = kept; unwritten = same; failed = is }))
   migration_fault (fault.Refused text) is = absurd is
-  migration_fault (fault.NoJournal text) is = record { path = path; asked = inr asked; kept = kept; unwritten = same; refused = is }
+  migration_fault (fault.NoJournal text) is = inl (record { path = path; asked = inr asked; kept = kept; unwritten = same; refused = is })
 
   pub migration_faults : {T : Type 0} (result : Result T ProgramFault) → IfErr result (λ why. IsMigrationFault (files.may_hold path) (files.may_fail path) why before after writing)
-      → IfErr result (λ why. IsFaultOf words files why from left reading before after writing)
+      → IfErr result (λ why. IsFaultOf words files log why from left reading before after writing)
   migration_faults result is =
-      IfErr-weaker result (λ why. IsMigrationFault (files.may_hold path) (files.may_fail path) why before after writing) (λ why. IsFaultOf words files why from left reading before after writing) migration_fault is
+      IfErr-weaker result (λ why. IsMigrationFault (files.may_hold path) (files.may_fail path) why before after writing) (λ why. IsFaultOf words files log why from left reading before after writing) migration_fault is

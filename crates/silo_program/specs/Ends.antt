@@ -1,5 +1,5 @@
 -- How the program ends, by its status: what the words ask for, what was read and written, and what was told.
-use Rattle.std.specs.Prelude.{◌≡◌, ◌⊎◌, ℕ, true, List, [], Option, Some, string_bytes}
+use Rattle.std.specs.Prelude.{◌≡◌, ◌⊎◌, ℕ, Bool, true, List, [], Option, Some, string_bytes}
 use Rattle.std.specs.Io.KnownBytes.{Appends, Keeps}
 use Rattle.clap.specs.Words.{Text}
 use Rattle.tenant_gate.specs.Table.{Table}
@@ -8,7 +8,7 @@ use Rattle.line_protocol.specs.Reading.{Reading}
 use Rattle.line_protocol.specs.declared.written.WriterCalls.{WriterCalls}
 use Rattle.line_protocol.specs.declared.fault.LineFault.{LineFault}
 use Rattle.command_parts.specs.Setups.{setup_of}
-use Rattle.silo_words.specs.Words.{AreRefused, AskForAnswering, AskForAudit, AskForHelp, AskForMigration, AskForNothing}
+use Rattle.silo_words.specs.Words.{AreRefused, AskForAnswering, AskForAudit, AskForData, AskForHelp, AskForMigration, AskForNothing}
 use Rattle.silo_words.specs.Words.{AskForServing, AskForSteps, AskForVersion, EndsWithExample, nothing_told}
 use Rattle.silo_words.specs.declared.task.Telling.{Telling}
 use Rattle.command_parts.specs.Status.{cause_of}
@@ -20,6 +20,9 @@ use Rattle.silo_words.specs.Tenants.{IsFirstRefused, NameTenants}
 use Rattle.line_commands.specs.Steps.{AnswersFrom, StopsFrom}
 use Rattle.command_parts.specs.Files.{FileClaims}
 use Rattle.line_commands.specs.Answering.{AnsweringFailsBy, AnswersLanes, WritesJournals}
+use Rattle.data_command.specs.Data.{AnswersData, DataFailsBy, DataLasts, HasInput, LogClaims}
+use Rattle.data_command.specs.Texts.{other_words_text, otherwise_text, refused_text as refused_line_text}
+use Rattle.data_command.specs.declared.fault.DataFault.TheVariants as data_fault
 use Rattle.serve_command.specs.Serving.{ServesLanes, ServingFailsBy, WritesServed}
 use Rattle.journal_commands.specs.Auditing.{AuditFailsBy, AuditsFile, RefusesFile}
 use Rattle.journal_commands.specs.Migrating.{MigratesFile, MigrationFailsBy}
@@ -63,6 +66,21 @@ pub record AskForAnswers (words : List Text) (tenants : Table) (age : ℕ) (ages
   pub named : NameTenants arguments tenants
   pub aged : NamesAges given ages
 
+-- The words ask to answer the lines of an input at once, for these tenants under this age and these ages of kinds, with so many
+-- deliveries behind each line, and to keep what was answered in this folder, which replies wait for if they are to.
+pub record AskForKeeping (words : List Text) (tenants : Table) (age : ℕ) (ages : Ages) (sends : ℕ) (folder : Text) (sync : Bool)
+    : Type 0 where
+  pub given : Option Text
+  pub arguments : List Text
+  pub asked : AskForData words age given sends folder sync arguments
+  pub named : NameTenants arguments tenants
+  pub aged : NamesAges given ages
+
+-- The words ask for a folder of data.
+abbrev pub AskForFolder : List Text → Text → Type 0
+AskForFolder words folder = (age : ℕ) × (given : Option Text) × (sends : ℕ) × (sync : Bool) × (arguments : List Text)
+    × AskForData words age given sends folder sync arguments
+
 -- The words ask for the journal at the path, of lines that are served or answered at once.
 abbrev pub AskForJournal : List Text → Text → Type 0
 AskForJournal words path =
@@ -75,13 +93,15 @@ AskForJournal words path =
 abbrev pub AskForFile : List Text → Text → Type 0
 AskForFile words path = AskForAudit words path ⊎ AskForMigration words path
 
--- The words have this text of the kinds' ages and these tenant arguments, whether they ask to take steps, to serve, or to answer at once.
+-- The words have this text of the kinds' ages and these tenant arguments, whether they ask to take steps, to serve, or to answer at once,
+-- with a folder of data or without.
 abbrev pub HaveArguments : List Text → Option Text → List Text → Type 0
 HaveArguments words given arguments =
     ((age : ℕ) × AskForSteps words age given arguments)
     ⊎ (((workers : ℕ) × (age : ℕ) × (journal : Option Text) × (telling : Telling)
     × AskForServing words workers age given journal telling arguments)
-    ⊎ ((age : ℕ) × (sends : ℕ) × (journal : Option Text) × AskForAnswering words age given sends journal arguments))
+    ⊎ (((age : ℕ) × (sends : ℕ) × (journal : Option Text) × AskForAnswering words age given sends journal arguments)
+    ⊎ ((age : ℕ) × (sends : ℕ) × (folder : Text) × (sync : Bool) × AskForData words age given sends folder sync arguments)))
 
 -- The words ask for work that takes maps: to take steps, to serve, to answer at once, or to audit.
 abbrev pub AskForWork : List Text → Type 0
@@ -138,6 +158,7 @@ FailsEarly words cause.Memory from left before after writing = Keeps from left �
 FailsEarly words cause.TooMuch from left before after writing = ⊥
 FailsEarly words cause.NoWorker from left before after writing = ⊥
 FailsEarly words cause.Strayed from left before after writing = ⊥
+FailsEarly words cause.InUse from left before after writing = ⊥
 
 -- ---- steps are taken
 
@@ -231,10 +252,82 @@ pub record WritesAnswered (words : List Text) (files : FileClaims) (from : Optio
   pub asked : AskForAnswers words tenants age ages sends (Some path)
   pub written : WritesJournals (setup_of tenants age ages) sends files path from
 
--- No file was written, or the journals that the words ask for were.
-abbrev pub LeavesFiles : List Text → FileClaims → Option (List ℕ) → Option (List ℕ) → Type 0
-LeavesFiles words files from left =
-    files.same ⊎ (WritesJournal words files from left ⊎ WritesAnswered words files from)
+-- ---- lines are answered at once, with a folder of data
+
+-- The words name tenants and a folder. The lines of the input were answered at once for them, by a silo that is where the lines of the
+-- folder's log lead; and the log has them, if replies are to wait for it.
+pub record AnswersInFolder (words : List Text) (log : LogClaims) (from left before after : Option (List ℕ)) : Type 0 where
+  pub tenants : Table
+  pub age : ℕ
+  pub ages : Ages
+  pub sends : ℕ
+  pub folder : Text
+  pub sync : Bool
+  pub asked : AskForKeeping words tenants age ages sends folder sync
+  pub answered : AnswersData (setup_of tenants age ages) sends log from left before after
+  pub has : sync ≡ true → HasInput (setup_of tenants age ages) sends log from
+
+-- The words name tenants and a folder, and answering the lines of the input at once for them failed.
+pub record FailsInFolder (words : List Text) (log : LogClaims) (why : Cause) (from left : Option (List ℕ)) (reading : Reading)
+    (before after : Option (List ℕ)) : Type 0 where
+  pub tenants : Table
+  pub age : ℕ
+  pub ages : Ages
+  pub sends : ℕ
+  pub folder : Text
+  pub sync : Bool
+  pub asked : AskForKeeping words tenants age ages sends folder sync
+  pub failed : DataFailsBy (setup_of tenants age ages) sends log (data_fault.Failed why) from left reading before after
+
+-- The words name tenants and a folder whose log was begun with other words, and that was said. Nothing was read and nothing written, and
+-- the log is as it was.
+pub record RefusesFolder (words : List Text) (log : LogClaims) (text : Text) (from left : Option (List ℕ)) (reading : Reading)
+    (before after : Option (List ℕ)) : Type 0 where
+  pub tenants : Table
+  pub age : ℕ
+  pub ages : Ages
+  pub sends : ℕ
+  pub folder : Text
+  pub sync : Bool
+  pub asked : AskForKeeping words tenants age ages sends folder sync
+  pub refused : DataFailsBy (setup_of tenants age ages) sends log data_fault.OtherWords from left reading before after
+  pub said : text ≡ other_words_text
+
+-- The words name tenants and a folder in whose log a line is refused, or answered otherwise than it was, and that was said. Nothing was
+-- read and nothing written, and the log is as it was.
+pub record RefusesLog (words : List Text) (log : LogClaims) (text : Text) (from left : Option (List ℕ)) (reading : Reading)
+    (before after : Option (List ℕ)) : Type 0 where
+  pub tenants : Table
+  pub age : ℕ
+  pub ages : Ages
+  pub sends : ℕ
+  pub folder : Text
+  pub sync : Bool
+  pub asked : AskForKeeping words tenants age ages sends folder sync
+  pub line : ℕ
+  pub refused : (DataFailsBy (setup_of tenants age ages) sends log (data_fault.Refused line) from left reading before after
+      × (text ≡ refused_line_text line))
+      ⊎ (DataFailsBy (setup_of tenants age ages) sends log (data_fault.Otherwise line) from left reading before after
+      × (text ≡ otherwise_text line))
+
+-- The words name tenants and a folder. If replies are to wait for its log: at each moment, whatever a crash leaves of the log, all that was
+-- told is the beginning of what it answers.
+pub record KeepsFolder (words : List Text) (log : LogClaims) : Type 0 where
+  pub tenants : Table
+  pub age : ℕ
+  pub ages : Ages
+  pub sends : ℕ
+  pub folder : Text
+  pub sync : Bool
+  pub asked : AskForKeeping words tenants age ages sends folder sync
+  pub lasts : sync ≡ true → DataLasts (setup_of tenants age ages) sends log
+
+-- ---- what files have
+
+-- No file was written, or the journals that the words ask for were, or the words ask for a folder of data, and that lasts.
+abbrev pub LeavesFiles : List Text → FileClaims → LogClaims → Option (List ℕ) → Option (List ℕ) → Type 0
+LeavesFiles words files log from left =
+    files.same ⊎ (WritesJournal words files from left ⊎ (WritesAnswered words files from ⊎ KeepsFolder words log))
 
 -- ---- a journal is audited
 
@@ -287,17 +380,19 @@ pub record RefusesJournal (words : List Text) (files : FileClaims) (text : Text)
 -- ---- how the program ends
 
 -- All is well: the words ask for a text, or to migrate a journal, which was written, or for steps, which were answered, or for lines to
--- be served or answered at once, which they were, or for an audit, which found no difference. The same of lines that were served, of
--- which this text is to be told. A tenant differs: the words ask for an audit, which found that.
-abbrev pub EndsAs : End → List Text → FileClaims → Option (List ℕ) → Option (List ℕ) → Option (List ℕ) → Option (List ℕ) → Type 0
-EndsAs end.Well words files from left before after =
+-- be served or answered at once, with a folder of data or without, which they were, or for an audit, which found no difference. The same
+-- of lines that were served, of which this text is to be told. A tenant differs: the words ask for an audit, which found that.
+abbrev pub EndsAs : End → List Text → FileClaims → LogClaims → Option (List ℕ) → Option (List ℕ) → Option (List ℕ) → Option (List ℕ)
+    → Type 0
+EndsAs end.Well words files log from left before after =
     (ShowsText words from left before after ⊎ Migrates words files from left before after)
     ⊎ (ServesSteps words from left before after
     ⊎ (ServesInput words files nothing_told from left before after []
-    ⊎ (AnswersAtOnce words files from left before after ⊎ Audits words files end.Well from left before after)))
-EndsAs (end.Told text) words files from left before after =
+    ⊎ (AnswersAtOnce words files from left before after
+    ⊎ (AnswersInFolder words log from left before after ⊎ Audits words files end.Well from left before after))))
+EndsAs (end.Told text) words files log from left before after =
     (telling : Telling) × (asks_to_tell telling ≡ true) × ServesInput words files telling from left before after (string_bytes text)
-EndsAs end.Differs words files from left before after = Audits words files end.Differs from left before after
+EndsAs end.Differs words files log from left before after = Audits words files end.Differs from left before after
 
 -- How lines that are served end, if they do.
 abbrev pub EndsServing : End → List Text → FileClaims → Telling → Option (List ℕ) → Option (List ℕ) → Option (List ℕ) → Option (List ℕ)
@@ -309,14 +404,14 @@ EndsServing (end.Told text) words files telling from left before after =
 EndsServing end.Differs words files telling from left before after = ⊥
 
 -- What was done before the program failed by this: nothing yet, or a part of what the words ask for.
-abbrev pub FailsBy : List Text → FileClaims → Cause → Option (List ℕ) → Option (List ℕ) → Reading → Option (List ℕ) → Option (List ℕ)
-    → WriterCalls → Type 0
-FailsBy words files why from left reading before after writing =
+abbrev pub FailsBy : List Text → FileClaims → LogClaims → Cause → Option (List ℕ) → Option (List ℕ) → Reading → Option (List ℕ)
+    → Option (List ℕ) → WriterCalls → Type 0
+FailsBy words files log why from left reading before after writing =
     (FailsEarly words why from left before after writing ⊎ FailsInMigration words files why from left before after writing)
     ⊎ (FailsInSteps words why from left reading before after writing
     ⊎ (FailsInServing words files why from left reading before after writing
     ⊎ (FailsInAnswering words files why from left reading before after writing
-    ⊎ FailsInAudit words files why from left before after writing)))
+    ⊎ (FailsInFolder words log why from left reading before after ⊎ FailsInAudit words files why from left before after writing))))
 
 -- Why a text isn't shown, or steps aren't taken.
 abbrev pub IsStreamFault : List Text → ProgramFault → Option (List ℕ) → Option (List ℕ) → Reading → Option (List ℕ) → Option (List ℕ)
@@ -351,12 +446,25 @@ IsAnsweringFault words files (fault.Refused text) from left reading before after
     AreRefusedBy words (string_bytes text) × Keeps from left × Keeps before after × files.same
 IsAnsweringFault words files (fault.NoJournal text) from left reading before after writing = ⊥
 
+-- Why lines aren't answered at once with a folder of data.
+abbrev pub IsFolderFault : List Text → FileClaims → LogClaims → ProgramFault → Option (List ℕ) → Option (List ℕ) → Reading
+    → Option (List ℕ) → Option (List ℕ) → WriterCalls → Type 0
+IsFolderFault words files log (fault.Failed why) from left reading before after writing =
+    FailsEarly words why from left before after writing ⊎ FailsInFolder words log why from left reading before after
+IsFolderFault words files log (fault.Refused text) from left reading before after writing =
+    (AreRefusedBy words (string_bytes text) × Keeps from left × Keeps before after × files.same)
+    ⊎ RefusesFolder words log (string_bytes text) from left reading before after
+IsFolderFault words files log (fault.NoJournal text) from left reading before after writing =
+    RefusesLog words log (string_bytes text) from left reading before after
+
 -- Why the program doesn't do what the words ask for. If the words are refused, nothing was read and nothing written, also no file.
-abbrev pub IsFaultOf : List Text → FileClaims → ProgramFault → Option (List ℕ) → Option (List ℕ) → Reading → Option (List ℕ)
+abbrev pub IsFaultOf : List Text → FileClaims → LogClaims → ProgramFault → Option (List ℕ) → Option (List ℕ) → Reading → Option (List ℕ)
     → Option (List ℕ) → WriterCalls → Type 0
-IsFaultOf words files (fault.Failed why) from left reading before after writing =
-    FailsBy words files why from left reading before after writing
-IsFaultOf words files (fault.Refused text) from left reading before after writing =
-    AreRefusedBy words (string_bytes text) × Keeps from left × Keeps before after × files.same
-IsFaultOf words files (fault.NoJournal text) from left reading before after writing =
+IsFaultOf words files log (fault.Failed why) from left reading before after writing =
+    FailsBy words files log why from left reading before after writing
+IsFaultOf words files log (fault.Refused text) from left reading before after writing =
+    (AreRefusedBy words (string_bytes text) × Keeps from left × Keeps before after × files.same)
+    ⊎ RefusesFolder words log (string_bytes text) from left reading before after
+IsFaultOf words files log (fault.NoJournal text) from left reading before after writing =
     RefusesJournal words files (string_bytes text) from left before after
+    ⊎ RefusesLog words log (string_bytes text) from left reading before after

@@ -6,18 +6,22 @@ ghost use Rattle.clap.specs.Words.{Text};
 ghost use Rattle.line_protocol.specs.Reading.{IsFresh, Reading};
 ghost use Rattle.silo_words.specs.Ages.{NamesAges};
 ghost use Rattle.silo_words.specs.Tenants.{NameTenants};
-ghost use Rattle.silo_words.specs.Words.{AskForAnswering, AskForServing, AskForSteps, IsWhy, texts_of};
+ghost use Rattle.silo_words.specs.Words.{AskForAnswering, AskForData, AskForServing, AskForSteps, IsWhy, texts_of};
+ghost use Rattle.data_command.specs.Data.{LogClaims, log_claims};
 ghost use Rattle.silo_program.specs.Arguments.{IsAgesFault, IsTenantsFault};
 ghost use Rattle.command_parts.specs.Status.{failure_text};
 ghost use Rattle.command_parts.specs.Streams.{BreaksOff, Tells, TellsEnd};
 ghost use Rattle.command_parts.specs.Files.{claims};
-ghost use Rattle.silo_program.specs.Ends.{AnswersAtOnce, AreRefusedBy, AskForJournal, EndsAs, EndsServing, FailsBy, IsAnsweringFault};
-ghost use Rattle.silo_program.specs.Ends.{IsFaultOf, IsNamingFault, IsServingFault, IsStreamFault, LeavesFiles, RefusesJournal};
-ghost use Rattle.silo_program.specs.Ends.{ServesSteps, ShowsText};
+ghost use Rattle.silo_program.specs.Ends.{AnswersAtOnce, AnswersInFolder, AreRefusedBy, AskForFolder, AskForJournal, EndsAs, EndsServing};
+ghost use Rattle.silo_program.specs.Ends.{FailsBy, IsAnsweringFault, IsFaultOf, IsFolderFault, IsNamingFault, IsServingFault};
+ghost use Rattle.silo_program.specs.Ends.{IsStreamFault, LeavesFiles, RefusesFolder, RefusesJournal, RefusesLog, ServesSteps, ShowsText};
 ghost use Rattle.command_parts.specs.declared.failure.End.{End as EndValue};
 
-use crate::seeding::seed_for;
-use command_parts::{Cause, End, ProgramFault, WholeFiles, cause_of, say, tell, tell_end};
+use crate::seeding::{random_number, seed_for};
+use command_parts::{
+    Cause, DataFiles, End, ProgramFault, WholeFiles, cause_of, say, tell, tell_end,
+};
+use data_command::{DataOpening, answer_data, explain_data};
 use grain_id::HashSeed;
 use idle_collector::AgeTable;
 use journal_commands::{audit_file, migrate_file};
@@ -25,7 +29,7 @@ use line_commands::{answer_input, answer_steps};
 use line_protocol::{Input, Output};
 use serve_command::{asks_to_tell, serve_lines};
 use silo_words::{
-    AgesFault, Task, Telling, TenantsFault, WordsFault, read_ages, read_tenants, read_words,
+    AgesFault, Data, Task, Telling, TenantsFault, WordsFault, read_ages, read_tenants, read_words,
 };
 use std::alloc::Global;
 use std::io::{Read, Write};
@@ -177,9 +181,9 @@ fn answer_tenants<F: WholeFiles, R: Read, W: Write>(
         → IfErr result (λ why. IsAnsweringFault words (claims F.may_hold F.may_fail F.may_leave files.old files.new) why
         (R.remaining input.old.reader) (R.remaining input.new.reader) input.new.lines
         (W.contents output.old.writer) (W.contents output.new.writer) output.new.calls) }
-    ensures journal { (words : List Text) → AskForAnswering words age (option_map (λ text. text.now) ages.entry) sends
+    ensures journal { (words : List Text) (log : LogClaims) → AskForAnswering words age (option_map (λ text. text.now) ages.entry) sends
         (option_map (λ path. path.now) journal.entry) (map (λ text. text.now) arguments.now)
-        → LeavesFiles words (claims F.may_hold F.may_fail F.may_leave files.old files.new)
+        → LeavesFiles words (claims F.may_hold F.may_fail F.may_leave files.old files.new) log
         (R.remaining input.old.reader) (R.remaining input.new.reader) }
 {
     let named = read_named(alloc, arguments, ages)?;
@@ -197,6 +201,63 @@ fn answer_tenants<F: WholeFiles, R: Read, W: Write>(
     ) {
         Ok(()) => Ok(End::Well),
         Err(why) => Err(ProgramFault::Failed(why)),
+    }
+}
+
+/// What lines are answered under, with a folder of data: the ages, the most deliveries behind a line, the folder, and the tenant
+/// arguments.
+#[derive(Clone, Copy)]
+struct FolderTask<'a> {
+    age: Age,
+    ages: Option<&'a str>,
+    sends: u64,
+    folder: Data<'a>,
+    arguments: &'a [&'a str],
+}
+
+/// Answers the lines of the input at once, for the tenants of the arguments, by a silo that goes on where the log of the folder ends.
+fn answer_in_folder<H: AllocGlobal + RandomSource, F: WholeFiles + DataFiles, R: Read, W: Write>(
+    rt: &H,
+    seed: HashSeed,
+    task: &FolderTask<'_>,
+    files: &mut F,
+    input: &mut Input<R>,
+    output: &mut Output<W>,
+) -> Result<End, ProgramFault>
+    requires fresh { IsFresh input.old.lines }
+    ensures ended { (words : List Text) → AskForData words task.now.age (option_map (λ text. text.now) task.now.ages) task.now.sends
+        task.now.folder.path.now task.now.folder.sync (map (λ text. text.now) task.now.arguments.now)
+        → IfOk result (λ end. (end ≡ End.Well) × AnswersInFolder words (log_claims F.begun F.acts F.failed files.old files.new)
+        (R.remaining input.old.reader) (R.remaining input.new.reader) (W.contents output.old.writer) (W.contents output.new.writer)) }
+    ensures unfailed { OnOk result (output.new.calls.failed ≡ output.old.calls.failed) }
+    ensures fault { (words : List Text) → AskForData words task.now.age (option_map (λ text. text.now) task.now.ages) task.now.sends
+        task.now.folder.path.now task.now.folder.sync (map (λ text. text.now) task.now.arguments.now)
+        → IfErr result (λ why. IsFolderFault words (claims F.may_hold F.may_fail F.may_leave files.old files.new)
+        (log_claims F.begun F.acts F.failed files.old files.new) why
+        (R.remaining input.old.reader) (R.remaining input.new.reader) input.new.lines
+        (W.contents output.old.writer) (W.contents output.new.writer) output.new.calls) }
+    ensures journal { (words : List Text) → AskForData words task.now.age (option_map (λ text. text.now) task.now.ages) task.now.sends
+        task.now.folder.path.now task.now.folder.sync (map (λ text. text.now) task.now.arguments.now)
+        → LeavesFiles words (claims F.may_hold F.may_fail F.may_leave files.old files.new)
+        (log_claims F.begun F.acts F.failed files.old files.new) (R.remaining input.old.reader) (R.remaining input.new.reader) }
+{
+    let alloc = rt.alloc();
+    let number = match random_number(rt) {
+        Ok(number) => number,
+        Err(why) => return Err(ProgramFault::Failed(why)),
+    };
+    let named = read_named(alloc, task.arguments, task.ages)?;
+    let opening = DataOpening {
+        seed,
+        number,
+        tenants: named.tenants,
+        age: task.age,
+        ages: named.ages,
+        sends: task.sends,
+    };
+    match answer_data(alloc, opening, task.folder, files, input, output) {
+        Ok(()) => Ok(End::Well),
+        Err(fault) => Err(explain_data(alloc, fault)),
     }
 }
 
@@ -233,9 +294,9 @@ fn serve_tenants<
         → IfErr result (λ why. IsServingFault words (claims F.may_hold F.may_fail F.may_leave files.old files.new) why
         (R.remaining input.old.reader) (R.remaining input.new.reader) input.new.lines
         (W.contents output.old.writer) (W.contents output.new.writer) output.new.calls) }
-    ensures journal { (words : List Text) → AskForServing words workers age (option_map (λ text. text.now) ages.entry)
+    ensures journal { (words : List Text) (log : LogClaims) → AskForServing words workers age (option_map (λ text. text.now) ages.entry)
         (option_map (λ path. path.now) journal.entry) telling (map (λ text. text.now) arguments.now)
-        → LeavesFiles words (claims F.may_hold F.may_fail F.may_leave files.old files.new)
+        → LeavesFiles words (claims F.may_hold F.may_fail F.may_leave files.old files.new) log
         (R.remaining input.old.reader) (R.remaining input.new.reader) }
 {
     let named = read_named(rt.alloc(), arguments, ages)?;
@@ -273,7 +334,7 @@ fn serve_tenants<
 /// As `run_program` tells them.
 pub fn answer<
     H: AllocGlobal + RandomSource + Threads + Wait + Sync,
-    F: WholeFiles,
+    F: WholeFiles + DataFiles,
     R: Read,
     W: Write,
     G: TurnGate + Sync,
@@ -289,13 +350,15 @@ pub fn answer<
 ) -> Result<End, ProgramFault>
     requires { IsFresh input.old.lines }
     ensures ended { IfOk result (λ end. EndsAs end (texts_of words.now) (claims F.may_hold F.may_fail F.may_leave files.old files.new)
+        (log_claims F.begun F.acts F.failed files.old files.new)
         (R.remaining input.old.reader) (R.remaining input.new.reader) (W.contents output.old.writer) (W.contents output.new.writer)) }
     ensures unfailed { OnOk result (output.new.calls.failed ≡ output.old.calls.failed) }
-    ensures fault { IfErr result (λ why. IsFaultOf (texts_of words.now) (claims F.may_hold F.may_fail F.may_leave files.old files.new) why
+    ensures fault { IfErr result (λ why. IsFaultOf (texts_of words.now) (claims F.may_hold F.may_fail F.may_leave files.old files.new)
+        (log_claims F.begun F.acts F.failed files.old files.new) why
         (R.remaining input.old.reader) (R.remaining input.new.reader) input.new.lines
         (W.contents output.old.writer) (W.contents output.new.writer) output.new.calls) }
     ensures journal { LeavesFiles (texts_of words.now) (claims F.may_hold F.may_fail F.may_leave files.old files.new)
-        (R.remaining input.old.reader) (R.remaining input.new.reader) }
+        (log_claims F.begun F.acts F.failed files.old files.new) (R.remaining input.old.reader) (R.remaining input.new.reader) }
 {
     let alloc = rt.alloc();
     let task = match read_words(alloc, words) {
@@ -317,7 +380,25 @@ pub fn answer<
             age,
             ages,
             sends,
+            data: Some(folder),
+            tenants,
+            ..
+        } => {
+            let wanted = FolderTask {
+                age: *age,
+                ages: *ages,
+                sends: *sends,
+                folder: *folder,
+                arguments: tenants.as_slice(),
+            };
+            answer_in_folder(rt, seed, &wanted, files, input, output)
+        }
+        Task::Answer {
+            age,
+            ages,
+            sends,
             journal,
+            data: None,
             tenants,
         } => answer_tenants(
             alloc,
@@ -361,7 +442,7 @@ pub fn answer<
 /// is read ahead. What is promised is so whatever random bytes the system gives.
 pub fn run_program<
     H: AllocGlobal + RandomSource + Threads + Wait + Sync,
-    F: WholeFiles,
+    F: WholeFiles + DataFiles,
     R: Read,
     W: Write,
     E: Write,
@@ -379,18 +460,22 @@ pub fn run_program<
     // What the words ask for was done, and told if they ask to tell it.
     ensures well { result ≡ 0 → (how : EndValue) × (how ≢ End.Differs)
         × EndsAs how (texts_of words.now) (claims F.may_hold F.may_fail F.may_leave files.old files.new)
+        (log_claims F.begun F.acts F.failed files.old files.new)
         (R.remaining input.old.reader) (R.remaining input.new.reader) (W.contents output.old.writer) (W.contents output.new.writer)
         × TellsEnd (E.contents errors.old.writer) (E.contents errors.new.writer) errors.new.calls how }
 
     // An audit was asked for, and a tenant differs.
     ensures differs { result ≡ 3 → EndsAs End.Differs (texts_of words.now) (claims F.may_hold F.may_fail F.may_leave files.old files.new)
+        (log_claims F.begun F.acts F.failed files.old files.new)
         (R.remaining input.old.reader) (R.remaining input.new.reader) (W.contents output.old.writer) (W.contents output.new.writer) }
 
     // In every outcome no file was written, or to the path that was asked for the journal of no step was, and then perhaps that
-    // of what was served or answered.
+    // of what was served or answered; or a folder of data is asked for, and whatever a crash leaves of its log at any moment, what was
+    // told is the beginning of what that log answers.
     ensures journal { LeavesFiles (texts_of words.now) (claims F.may_hold F.may_fail F.may_leave files.old files.new)
-        (R.remaining input.old.reader) (R.remaining input.new.reader) }
-    ensures files { ((path : Text) → ¬ AskForJournal (texts_of words.now) path) → files.new ≡ files.old }
+        (log_claims F.begun F.acts F.failed files.old files.new) (R.remaining input.old.reader) (R.remaining input.new.reader) }
+    ensures files { ((path : Text) → ¬ AskForJournal (texts_of words.now) path)
+        → ((folder : Text) → ¬ AskForFolder (texts_of words.now) folder) → files.new ≡ files.old }
 
     // No call of the writer failed, and nothing was told then but what the words ask to tell.
     ensures unfailed { (result ≡ 0) ⊎ (result ≡ 3) → output.new.calls.failed ≡ output.old.calls.failed }
@@ -398,22 +483,30 @@ pub fn run_program<
 
     // The program failed, and told by what.
     ensures failed { result ≡ 1 → (why : Cause)
-        × FailsBy (texts_of words.now) (claims F.may_hold F.may_fail F.may_leave files.old files.new) why
+        × FailsBy (texts_of words.now) (claims F.may_hold F.may_fail F.may_leave files.old files.new)
+        (log_claims F.begun F.acts F.failed files.old files.new) why
         (R.remaining input.old.reader) (R.remaining input.new.reader) input.new.lines
         (W.contents output.old.writer) (W.contents output.new.writer) output.new.calls
         × Tells (E.contents errors.old.writer) (E.contents errors.new.writer) errors.new.calls (failure_text why) }
 
-    // The arguments are refused, and what was told says why.
-    ensures refused { result ≡ 2 → (text : Text) × AreRefusedBy (texts_of words.now) text
+    // The arguments are refused, or the folder of data has a log of other words, and what was told says why.
+    ensures refused { result ≡ 2 → (text : Text) × ((AreRefusedBy (texts_of words.now) text × (files.new ≡ files.old))
+        ⊎ RefusesFolder (texts_of words.now) (log_claims F.begun F.acts F.failed files.old files.new) text
+        (R.remaining input.old.reader) (R.remaining input.new.reader) input.new.lines
+        (W.contents output.old.writer) (W.contents output.new.writer))
         × Tells (E.contents errors.old.writer) (E.contents errors.new.writer) errors.new.calls text }
     ensures unread { result ≡ 2 → Keeps (R.remaining input.old.reader) (R.remaining input.new.reader) }
     ensures unwritten { result ≡ 2 → Keeps (W.contents output.old.writer) (W.contents output.new.writer) }
-    ensures untouched { result ≡ 2 → files.new ≡ files.old }
+    ensures untouched { result ≡ 2 → ((folder : Text) → ¬ AskForFolder (texts_of words.now) folder) → files.new ≡ files.old }
 
-    // An audit was asked for, or a journal to be migrated, the file has no journal, and what was told says which line is refused.
+    // An audit was asked for, or a journal to be migrated, the file has no journal, and what was told says which line is refused; or a
+    // folder of data was, and what was told says at which line its log isn't gone on with.
     ensures no_journal { result ≡ 4 → (text : Text)
-        × RefusesJournal (texts_of words.now) (claims F.may_hold F.may_fail F.may_leave files.old files.new) text
+        × (RefusesJournal (texts_of words.now) (claims F.may_hold F.may_fail F.may_leave files.old files.new) text
         (R.remaining input.old.reader) (R.remaining input.new.reader) (W.contents output.old.writer) (W.contents output.new.writer)
+        ⊎ RefusesLog (texts_of words.now) (log_claims F.begun F.acts F.failed files.old files.new) text
+        (R.remaining input.old.reader) (R.remaining input.new.reader) input.new.lines
+        (W.contents output.old.writer) (W.contents output.new.writer))
         × Tells (E.contents errors.old.writer) (E.contents errors.new.writer) errors.new.calls text }
 {
     match answer(rt, words, files, input, output, &FreeGate, &FreeAuditGate) {

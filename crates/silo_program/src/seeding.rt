@@ -10,14 +10,28 @@ use grain_id::HashSeed;
 use silo_words::Task;
 use std::random::RandomSource;
 
-/// A seed of eight bytes that the source gives.
-fn random_seed<H: RandomSource>(rt: &H) -> Result<HashSeed, Cause>
+/// A number of eight bytes that the source gives, for a log that is begun: no other log should have it.
+///
+/// # Errors
+///
+/// `Read` if the source fails.
+pub fn random_number<H: RandomSource>(rt: &H) -> Result<u64, Cause>
     ensures { IfErr result (λ why. why ≡ Cause.Read) }
 {
     let mut bytes = [0; 8];
     match rt.fill_bytes(&mut bytes) {
-        Ok(()) => Ok(HashSeed::new(u64::from_le_bytes(bytes))),
+        Ok(()) => Ok(u64::from_le_bytes(bytes)),
         Err(_) => Err(Cause::Read),
+    }
+}
+
+/// A seed of eight bytes that the source gives.
+fn random_seed<H: RandomSource>(rt: &H) -> Result<HashSeed, Cause>
+    ensures { IfErr result (λ why. why ≡ Cause.Read) }
+{
+    match random_number(rt) {
+        Ok(number) => Ok(HashSeed::new(number)),
+        Err(why) => Err(why),
     }
 }
 

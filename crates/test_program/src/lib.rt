@@ -12,6 +12,8 @@ mod endless;
 #[cfg(test)]
 mod journals;
 #[cfg(test)]
+mod kept;
+#[cfg(test)]
 mod runs;
 #[cfg(test)]
 mod told;

@@ -1,6 +1,6 @@
 //! Runs of the program over files, a reader and writers in memory.
 
-use silo_program::{Input, MemoryFile, Output, WholeFiles, run_program};
+use silo_program::{DataFiles, Input, MemoryFile, Output, WholeFiles, run_program};
 use std::alloc::Global;
 use std::random::RandomSource;
 use std::sync::Wait;
@@ -32,7 +32,7 @@ pub fn file_of(alloc: Global, text: &str) -> Result<MemoryFile, Fail> {
 }
 
 /// Runs the program on these words, this input and these files.
-pub fn left_by<H: AllocGlobal + RandomSource + Threads + Wait + Sync, F: WholeFiles>(
+pub fn left_by<H: AllocGlobal + RandomSource + Threads + Wait + Sync, F: WholeFiles + DataFiles>(
     rt: &H,
     words: &str,
     input: &str,

@@ -7,21 +7,21 @@ use Rattle.silo_program.proofs.SeedLemmas.{not_seeded}
 use Rattle.silo_program.proofs.program.answer.Goals as goal
 
 pub returns-in-Err-clause-ended : goal.returns-in-Err-clause-ended
-returns-in-Err-clause-ended g c = ends_shown _ _ _ _ _ _ c.explain_words.result (c.explain_words.ensures.shown _ _ c.in-Err.ensures.fault)
+returns-in-Err-clause-ended g c = ends_shown _ _ _ _ _ _ _ c.explain_words.result (c.explain_words.ensures.shown _ _ c.in-Err.ensures.fault)
 
 pub returns-in-Err-clause-fault : goal.returns-in-Err-clause-fault
-returns-in-Err-clause-fault g c = stream_faults _ _ _ _ _ _ _ _ refl c.explain_words.result (c.explain_words.ensures.fault _ _ _ c.in-Err.ensures.fault)
+returns-in-Err-clause-fault g c = stream_faults _ _ _ _ _ _ _ _ _ refl c.explain_words.result (c.explain_words.ensures.fault _ _ _ c.in-Err.ensures.fault)
 
 pub returns-in-Serve-clause-journal : goal.returns-in-Serve-clause-journal
-returns-in-Serve-clause-journal g c = c.serve_tenants.ensures.journal (texts_of c.args.words.now) (search rules)
+returns-in-Serve-clause-journal g c = c.serve_tenants.ensures.journal (texts_of c.args.words.now) _ (search rules)
 
 pub returns-in-Err-seed_for-clause-fault : goal.returns-in-Err-seed_for-clause-fault
 returns-in-Err-seed_for-clause-fault g c =
     let words = texts_of c.args.words.now in
-    not_seeded words _ _ _ _ _ c.in-Err-seed_for.why (c.in-Err-seed_for.ensures words c.in-Ok.ensures.task)
+    not_seeded words _ _ _ _ _ _ c.in-Err-seed_for.why (c.in-Err-seed_for.ensures words c.in-Ok.ensures.task)
 
 pub returns-clause-fault : goal.returns-clause-fault
 returns-clause-fault g c =
     let words = texts_of c.args.words.now in
     let files = claims g.F.WholeFiles.may_hold g.F.WholeFiles.may_fail g.F.WholeFiles.may_leave c.args.files.now c.args.files.now in
-    migration_faults words files c.in-Migrate.path.now (search rules) refl _ _ _ _ _ _ (Keeps-refl _) c.migrate_file.result c.migrate_file.ensures.fault
+    migration_faults words files _ c.in-Migrate.path.now (search rules) refl _ _ _ _ _ _ (Keeps-refl _) c.migrate_file.result c.migrate_file.ensures.fault

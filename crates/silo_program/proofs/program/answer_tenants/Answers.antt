@@ -9,7 +9,7 @@ returns-in_err-named-clause-fault g c words asked =
     rw (p.1, p.2) (answering_refused words _ _ _ _ _ _ _ refl _ _ _ asked c.in_err-named.field-0.0 c.in_err-named.ensures.fault)
 
 pub returns-in-Ok-clause-journal : goal.returns-in-Ok-clause-journal
-returns-in-Ok-clause-journal g c words asked = answered_left words _ _ _ _ _ _ _ _ _ _ asked c.in_ok-named.ensures.named c.answer_input.ensures.journal
+returns-in-Ok-clause-journal g c words log asked = answered_left words _ log _ _ _ _ _ _ _ _ _ asked c.in_ok-named.ensures.named c.answer_input.ensures.journal
 
 pub returns-in-Err-clause-journal : goal.returns-in-Err-clause-journal
-returns-in-Err-clause-journal g c words asked = answered_left words _ _ _ _ _ _ _ _ _ _ asked c.in_ok-named.ensures.named c.answer_input.ensures.journal
+returns-in-Err-clause-journal g c words log asked = answered_left words _ log _ _ _ _ _ _ _ _ _ asked c.in_ok-named.ensures.named c.answer_input.ensures.journal

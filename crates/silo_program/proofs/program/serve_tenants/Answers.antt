@@ -12,13 +12,13 @@ returns-in_err-named-clause-fault g c words asked =
     rw (p.1, p.2) (serving_refused words _ _ _ _ _ _ _ refl _ _ _ _ asked c.in_err-named.field-0.0 c.in_err-named.ensures.fault)
 
 pub returns-then-asks_to_tell-clause-journal : goal.returns-then-asks_to_tell-clause-journal
-returns-then-asks_to_tell-clause-journal g c words asked = files_left words _ _ _ _ _ _ _ _ _ _ _ asked c.in_ok-named.ensures.named c.serve_lines.ensures.journal
+returns-then-asks_to_tell-clause-journal g c words log asked = files_left words _ log _ _ _ _ _ _ _ _ _ _ asked c.in_ok-named.ensures.named c.serve_lines.ensures.journal
 
 pub returns-else-asks_to_tell-clause-journal : goal.returns-else-asks_to_tell-clause-journal
-returns-else-asks_to_tell-clause-journal g c words asked = files_left words _ _ _ _ _ _ _ _ _ _ _ asked c.in_ok-named.ensures.named c.serve_lines.ensures.journal
+returns-else-asks_to_tell-clause-journal g c words log asked = files_left words _ log _ _ _ _ _ _ _ _ _ _ asked c.in_ok-named.ensures.named c.serve_lines.ensures.journal
 
 pub returns-in-Err-clause-journal : goal.returns-in-Err-clause-journal
-returns-in-Err-clause-journal g c words asked = files_left words _ _ _ _ _ _ _ _ _ _ _ asked c.in_ok-named.ensures.named c.serve_lines.ensures.journal
+returns-in-Err-clause-journal g c words log asked = files_left words _ log _ _ _ _ _ _ _ _ _ _ asked c.in_ok-named.ensures.named c.serve_lines.ensures.journal
 
 pub returns-else-asks_to_tell-clause-ended : goal.returns-else-asks_to_tell-clause-ended
 returns-else-asks_to_tell-clause-ended g c words asked =

@@ -1,0 +1,49 @@
+//! Why a folder of data isn't gone on with, and what is said of it.
+
+ghost use Rattle.std.specs.Prelude.{◌≡◌};
+ghost use Rattle.data_command.specs.Texts.{IsDataFault};
+
+use command_parts::{Cause, ProgramFault};
+use std::alloc::Global;
+
+/// Why the lines of an input were not all answered, with a folder of data.
+#[derive(Clone, Copy, Debug, PartialEq, Eq)]
+pub enum DataFault {
+    /// It failed.
+    Failed(Cause),
+
+    /// The folder's log was begun with other words.
+    OtherWords,
+
+    /// That line of the log, counted from 1, is refused.
+    Refused(u128),
+
+    /// For the batch that ends with that line of the log, counted from 1, something else would be told than was.
+    Otherwise(u128),
+}
+
+/// What the program says of a fault, and how it ends: with status 1 if it failed, 2 for other words, and 4 for a line of the log.
+pub fn explain_data(alloc: Global, fault: DataFault) -> ProgramFault
+    ensures { IsDataFault fault result }
+{
+    match fault {
+        DataFault::Failed(why) => ProgramFault::Failed(why),
+        DataFault::OtherWords => match String::from_str(
+            alloc,
+            "silo: the data have other words\n",
+        ) {
+            Ok(text) => ProgramFault::Refused(text),
+            Err(_) => ProgramFault::Failed(Cause::Memory),
+        },
+        DataFault::Refused(line) => match format!(in alloc; "silo: log line {line} is refused\n") {
+            Ok(text) => ProgramFault::NoJournal(text),
+            Err(_) => ProgramFault::Failed(Cause::Memory),
+        },
+        DataFault::Otherwise(line) => {
+            match format!(in alloc; "silo: log line {line} is answered otherwise\n") {
+                Ok(text) => ProgramFault::NoJournal(text),
+                Err(_) => ProgramFault::Failed(Cause::Memory),
+            }
+        }
+    }
+}

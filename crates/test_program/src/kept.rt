@@ -1,0 +1,148 @@
+//! What was answered is kept in a folder of data, from one run to the next.
+
+ghost use Rattle.std.specs.Prelude.{◌≡◌, None};
+
+use crate::runs::{Left, left_by};
+use log_host::{Did, Fuse, HostFault, LogFiles, LogHost, MemoryLog, OpenFault};
+use silo_program::{DataFiles, FileFault, Output, WholeFiles};
+use std::alloc::Global;
+use std::io::Write;
+use std::random::RandomSource;
+use std::sync::Wait;
+use std::test::Fail;
+use std::thread::Threads;
+
+/// A folder of data in memory, and no other file.
+#[derive(Drop)]
+struct Folder {
+    log: MemoryLog,
+}
+
+impl WholeFiles for Folder {
+    fn read_whole(&self, _alloc: Global, _path: &str) -> Result<Vec<u8>, FileFault> {
+        Err(FileFault::Failed)
+    }
+
+    fn write_whole(&mut self, _alloc: Global, _path: &str, _bytes: &[u8]) -> Result<(), FileFault> {
+        Err(FileFault::Failed)
+    }
+}
+
+impl LogHost for Folder {
+    ghost begun = { λ _. None };
+
+    ghost acts = { λ _. None };
+
+    ghost failed = { λ folder. folder.log.failed };
+
+    fn append(&mut self, bytes: &[u8]) -> Result<(), HostFault> {
+        self.log.append(bytes)
+    }
+
+    fn sync(&mut self) -> Result<(), HostFault> {
+        self.log.sync()
+    }
+
+    fn tell<W: Write>(&mut self, output: &mut Output<W>, bytes: &[u8]) -> Result<(), HostFault> {
+        self.log.tell(output, bytes)
+    }
+}
+
+impl LogFiles for Folder {
+    fn open(&mut self, alloc: Global, path: &str) -> Result<Option<Vec<u8>>, OpenFault> {
+        self.log.open(alloc, path)
+    }
+
+    fn begin(&mut self, head: &[u8]) -> Result<(), HostFault> {
+        self.log.begin(head)
+    }
+
+    fn keep(&mut self, length: usize) -> Result<(), HostFault> {
+        self.log.keep(length)
+    }
+}
+
+impl DataFiles for Folder {
+    fn set_sync(&mut self, _sync: bool) {}
+}
+
+/// A folder whose log has these bytes, or which has none.
+fn folder_of(alloc: Global, begun: Option<Vec<u8>>) -> Folder {
+    Folder {
+        log: MemoryLog::new(alloc, begun, Fuse { calls: 0, part: 0 }),
+    }
+}
+
+/// What the log has: what it was begun with, and what was written behind that.
+fn bytes_in(alloc: Global, folder: &Folder) -> Result<Vec<u8>, Fail> {
+    let mut bytes = Vec::new(alloc);
+    if let Some(begun) = &folder.log.begun {
+        bytes.extend_from_slice(begun.as_slice())?;
+    }
+    for did in folder.log.did.iter() {
+        if let Did::Wrote(more) = did {
+            bytes.extend_from_slice(more.as_slice())?;
+        }
+    }
+    Ok(bytes)
+}
+
+const ADD: &str = concat!(
+    r#"{"op":"call","from":"red/c1","id":1,"grain":"counter/red:a","method":"add","args":{"by":3}}"#,
+    "\n"
+);
+
+const GET: &str = concat!(
+    r#"{"op":"call","from":"red/c1","id":2,"grain":"counter/red:a","method":"get"}"#,
+    "\n"
+);
+
+/// Asks a counter to add 3 over a new folder, and then what the words and the line say over what the first run left.
+fn again<H: AllocGlobal + RandomSource + Threads + Wait + Sync>(
+    rt: &H,
+    words: &str,
+    line: &str,
+) -> Result<Left, Fail> {
+    let alloc = rt.alloc();
+    let mut folder = folder_of(alloc, None);
+    let first = left_by(rt, "silo answer --data d red:2:4", ADD, &mut folder)?;
+    if first.status != 0 {
+        return Err(Fail::from("the first run failed"));
+    }
+    let bytes = bytes_in(alloc, &folder)?;
+    let mut folder = folder_of(alloc, Some(bytes));
+    left_by(rt, words, line, &mut folder)
+}
+
+/// Whether a run ended so.
+fn is_so(left: &Left, status: u8, output: &str, errors: &str) -> bool {
+    left.status == status
+        && left.output.as_slice() == output.as_bytes()
+        && left.errors.as_slice() == errors.as_bytes()
+}
+
+#[test]
+fn a_run_goes_on_where_the_last_ended(rt: HostRuntime) -> Result<(), Fail> {
+    let left = again(&rt, "silo answer --data d red:2:4", GET)?;
+    assert!(rt; is_so(&left, 0, "{\"from\":\"red/c1\",\"id\":2,\"ok\":3}\n", ""));
+    let left = again(&rt, "silo answer --data d --no-sync red:2:4", GET)?;
+    assert!(rt; is_so(&left, 0, "{\"from\":\"red/c1\",\"id\":2,\"ok\":3}\n", ""));
+    Ok(())
+}
+
+#[test]
+fn other_words_are_refused(rt: HostRuntime) -> Result<(), Fail> {
+    let left = again(&rt, "silo answer --data d red:2:5", GET)?;
+    assert!(rt; is_so(&left, 2, "", "silo: the data have other words\n"));
+    Ok(())
+}
+
+#[test]
+fn what_is_no_log_is_refused(rt: HostRuntime) -> Result<(), Fail> {
+    let alloc = rt.alloc();
+    let bytes = Vec::from_slice(alloc, b"silo-journal 3\n")?;
+    let mut folder = folder_of(alloc, Some(bytes));
+    let left = left_by(&rt, "silo answer --data d red:2:4", GET, &mut folder)?;
+    assert!(rt; is_so(&left, 4, "", "silo: log line 1 is refused\n"));
+    Ok(())
+}
