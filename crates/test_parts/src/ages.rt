@@ -1,9 +1,9 @@
 //! Tables of ages, the order of their faults, and which age a kind has.
 
-use crate::rows::{Fields, MOST_FIELDS, Subject, hold, show, tell};
+use crate::rows::{Fields, MOST_FIELDS, Subject, hold, put_fault, show, tell};
 use crate::values::{kind, numbered};
 use grain_id::Kind;
-use idle_collector::{AgeFault, AgeTable};
+use idle_collector::AgeTable;
 use std::alloc::Global;
 use std::test::Fail;
 use tenant_gate::Age;
@@ -13,11 +13,11 @@ static AGES: &str = "
 age | counter | 900000
 
 # So many kinds `k99`, `k98` and so on, each with its number for its age, and others with their ages.
-table | 64 | k99 | 0 | too many
-table | 63 | k99 | 0 | twice;k99;
+table | 64 | k99 | 0 | there are more than 64 kinds
+table | 63 | k99 | 0 | kind k99 stands there twice
 # A repeat comes before a range, and the first kind that stands a second time before others.
-table | 0 | sheet | 5 | relay | 0 | counter | 3 | counter | 3 | sheet | 5 | twice;counter;
-table | 0 | sheet | 86400000 | relay | 0 | counter | 86400001 | range;relay;
+table | 0 | sheet | 5 | relay | 0 | counter | 3 | counter | 3 | sheet | 5 | kind counter stands there twice
+table | 0 | sheet | 86400000 | relay | 0 | counter | 86400001 | the age of kind relay is out of range
 
 # A kind has its own age, or that of the others.
 table | 0 | sheet | 86400000 | counter | 1 | relay-2 | 7 | made
@@ -47,7 +47,7 @@ fn add_kind(alloc: Global, list: &mut Kinds, name: &str, age: u64) -> Result<(),
 fn add_kinds(alloc: Global, list: &mut Kinds, count: u64) -> Result<(), Fail> {
     for place in 0..count {
         let number = 99_u64.saturating_sub(place);
-        add_kind(alloc, list, &numbered(alloc, 'k', number)?, number)?;
+        add_kind(alloc, list, &numbered(alloc, "k", number)?, number)?;
     }
     Ok(())
 }
@@ -70,18 +70,6 @@ fn kinds(alloc: Global, fields: &mut Fields<'_>) -> Result<Kinds, Fail> {
     Ok(list)
 }
 
-fn put_age_fault(fault: &AgeFault, out: &mut String) -> Result<(), Fail> {
-    let (what, kind) = match fault {
-        AgeFault::TooMany => return Ok(out.push_str("too many")?),
-        AgeFault::Twice(kind) => ("twice", kind),
-        AgeFault::Range(kind) => ("range", kind),
-        AgeFault::Memory => return Err(Fail::from("out of memory")),
-    };
-    let name = kind.text();
-    write!(out, "{what};{name};")?;
-    Ok(())
-}
-
 /// Makes the table of a list, if it is one.
 fn make_ages(
     alloc: Global,
@@ -94,11 +82,7 @@ fn make_ages(
             *table = made;
             Ok(out.push_str("made")?)
         }
-        Err(fault) => {
-            let told = put_age_fault(&fault, out);
-            drop(fault);
-            told
-        }
+        Err(fault) => put_fault(out, fault),
     }
 }
 

@@ -6,8 +6,8 @@ use crate::values::{caller, grain, kind, message, state, tenant};
 use grain_id::{GrainId, Tenant};
 use request_codec::SharedState;
 use silo_event::{
-    Fault, Moment, Party, Refusal, Reply, Step, StepFault, copy_of_fault, copy_of_party,
-    copy_of_reply, copy_of_step,
+    Fault, Moment, Party, Refusal, Reply, Step, copy_of_fault, copy_of_party, copy_of_reply,
+    copy_of_step,
 };
 use std::alloc::Global;
 use std::test::Fail;
@@ -268,14 +268,6 @@ impl Subject for Events {
 #[test]
 fn faults_moments_and_steps(rt: HostRuntime) -> Result<(), Fail> {
     hold(rt.alloc(), &mut Events, ROWS)
-}
-
-#[test]
-fn step_faults_are_shown(rt: HostRuntime) -> Result<(), Fail> {
-    let memory = StepFault::Memory.to_string(rt.alloc())?;
-    same(memory.as_str(), "out of memory")?;
-    let stranger = StepFault::Stranger.to_string(rt.alloc())?;
-    same(stranger.as_str(), "result is of another turn")
 }
 
 /// A value for a client of red.

@@ -6,12 +6,14 @@ use grain_id::IdFault;
 use grain_logic::MethodFault;
 use grain_storage::StoreFault;
 use request_codec::CodecFault;
+use silo_event::StepFault;
 use std::alloc::Global;
 use std::error::Error;
 use std::fmt::Display;
 use std::test::Fail;
-use tenant_gate::{GateFault, GateRefusal, TableFault};
+use tenant_gate::GateRefusal;
 use turn_arena::ArenaFault;
+use turn_mailbox::NoTurn;
 
 /// It is shown by this text.
 fn is_shown<T: Display>(alloc: Global, it: &T, wanted: &str) -> Result<(), Fail> {
@@ -50,6 +52,9 @@ fn faults_without_names_are_told(rt: HostRuntime) -> Result<(), Fail> {
     is_told(alloc, CodecFault::TooDeep, "the value is deeper than 32")?;
     is_told(alloc, ArenaFault::NotAMessage, "nothing spells the bytes")?;
     is_told(alloc, StoreFault::Failed, "the storage failed")?;
+    is_told(alloc, StepFault::Memory, "out of memory")?;
+    is_told(alloc, StepFault::Stranger, "result is of another turn")?;
+    is_told(alloc, NoTurn, "no turn of that number is open")?;
     is_told(
         alloc,
         GateRefusal::AcrossTenants,
@@ -71,27 +76,6 @@ fn faults_of_methods_are_shown(rt: HostRuntime) -> Result<(), Fail> {
         is_shown(rt.alloc(), fault, *text)?;
     }
     Ok(())
-}
-
-/// A table with a tenant twice.
-fn twice(alloc: Global, name: &str) -> Result<TableFault, Fail> {
-    Ok(TableFault::Twice(tenant(alloc, name)?))
-}
-
-/// A call from one tenant to another.
-fn across(alloc: Global, from: &str, to: &str) -> Result<GateFault, Fail> {
-    Ok(GateFault::Across(tenant(alloc, from)?, tenant(alloc, to)?))
-}
-
-#[test]
-fn faults_with_names_are_told(rt: HostRuntime) -> Result<(), Fail> {
-    let alloc = rt.alloc();
-    is_told(alloc, twice(alloc, "red")?, "tenant red stands there twice")?;
-    is_told(
-        alloc,
-        across(alloc, "red", "blue")?,
-        "tenant red may not call a grain of tenant blue",
-    )
 }
 
 #[test]

@@ -1,11 +1,11 @@
 //! Tables of tenants, the order of their faults, and who may call whom.
 
-use crate::rows::{Fields, MOST_FIELDS, Subject, hold, show, tell};
+use crate::rows::{Fields, MOST_FIELDS, Subject, hold, put_fault, show, tell};
 use crate::values::{grain, numbered, tenant};
 use grain_id::{GrainId, Tenant};
 use std::alloc::Global;
 use std::test::Fail;
-use tenant_gate::{Age, GateFault, Limits, TableFault, TenantTable};
+use tenant_gate::{Age, Limits, TenantTable};
 
 /// A table of tenants, and calls that look at it.
 #[derive(Drop)]
@@ -15,18 +15,18 @@ struct Gate {
 
 static GATE: &str = "
 # So many tenants `t0`, `t1` and so on, and others with their limits.
-table | 0 | empty
-table | 0 | red | 2 | 4 | blue | 0 | 4 | green | 1 | 1001 | range;blue;
+table | 0 | there is no tenant
+table | 0 | red | 2 | 4 | blue | 0 | 4 | green | 1 | 1001 | the limits of tenant blue are out of range
 # A repeat comes before a range.
-table | 0 | red | 2 | 4 | blue | 2 | 4 | green | 2 | 4 | blue | 2 | 4 | red | 2 | 4 | grey | 0 | 4 | twice;blue;
+table | 0 | red | 2 | 4 | blue | 2 | 4 | green | 2 | 4 | blue | 2 | 4 | red | 2 | 4 | grey | 0 | 4 | tenant blue stands there twice
 
 # Names that begin alike are told apart.
 table | 0 | red | 2 | 4 | reddish | 2 | 4 | made
 call | red | counter/red:a | passes
 call | reddish | counter/reddish:a | passes
-call | reddish | counter/red:a | across;reddish;red;
-call | red | counter/blue:a | across;red;blue;
-call | blue | counter/blue:a | unknown;blue;
+call | reddish | counter/red:a | tenant reddish may not call a grain of tenant red
+call | red | counter/blue:a | tenant red may not call a grain of tenant blue
+call | blue | counter/blue:a | tenant blue is unknown
 
 # Limits and ages have their ranges.
 limits | 2 | 4 | true
@@ -38,7 +38,7 @@ age | 86400000 | Some(86400000)
 age | 86400001 | None
 
 # A thousand tenants and no more; each is found, and no other.
-table | 1000 | t0 | 2 | 4 | too many
+table | 1000 | t0 | 2 | 4 | there are more than 1,000 tenants
 table | 1000 | made
 len | 1000
 found | 1000 | 1000
@@ -68,7 +68,7 @@ fn add_tenants(alloc: Global, list: &mut Tenants, count: u32) -> Result<(), Fail
             activations: number.saturating_add(1),
             mailbox: 1,
         };
-        add_tenant(alloc, list, &numbered(alloc, 't', number as u64)?, limits)?;
+        add_tenant(alloc, list, &numbered(alloc, "t", number as u64)?, limits)?;
     }
     Ok(())
 }
@@ -91,33 +91,6 @@ fn tenants(alloc: Global, fields: &mut Fields<'_>) -> Result<Tenants, Fail> {
     Ok(list)
 }
 
-fn put_table_fault(fault: &TableFault, out: &mut String) -> Result<(), Fail> {
-    let (what, tenant) = match fault {
-        TableFault::Empty => return Ok(out.push_str("empty")?),
-        TableFault::TooMany => return Ok(out.push_str("too many")?),
-        TableFault::Twice(tenant) => ("twice", tenant),
-        TableFault::Range(tenant) => ("range", tenant),
-        TableFault::Memory => return Err(Fail::from("out of memory")),
-    };
-    let name = tenant.text();
-    write!(out, "{what};{name};")?;
-    Ok(())
-}
-
-fn put_gate_fault(fault: &GateFault, out: &mut String) -> Result<(), Fail> {
-    match fault {
-        GateFault::Unknown(tenant) => {
-            let name = tenant.text();
-            Ok(write!(out, "unknown;{name};")?)
-        }
-        GateFault::Across(from, to) => {
-            let (from, to) = (from.text(), to.text());
-            Ok(write!(out, "across;{from};{to};")?)
-        }
-        GateFault::Memory => Err(Fail::from("out of memory")),
-    }
-}
-
 /// How many activations a tenant may have; 0 for one that isn't there.
 fn activations(table: &TenantTable, name: &str) -> u32 {
     match table.limits(name) {
@@ -131,7 +104,7 @@ fn found(alloc: Global, table: &TenantTable, count: &str) -> Result<u32, Fail> {
     let count: u32 = count.parse()?;
     let mut found = 0_u32;
     for number in 0..count {
-        let name = numbered(alloc, 't', number as u64)?;
+        let name = numbered(alloc, "t", number as u64)?;
         if activations(table, &name) == number.saturating_add(1) {
             found = found.saturating_add(1);
         }
@@ -148,11 +121,7 @@ fn call(
 ) -> Result<(), Fail> {
     match table.check_call(alloc, caller, called) {
         Ok(()) => Ok(out.push_str("passes")?),
-        Err(fault) => {
-            let told = put_gate_fault(&fault, out);
-            drop(fault);
-            told
-        }
+        Err(fault) => put_fault(out, fault),
     }
 }
 
@@ -207,11 +176,7 @@ impl Gate {
                 self.table = Some(table);
                 Ok(out.push_str("made")?)
             }
-            Err(fault) => {
-                let told = put_table_fault(&fault, out);
-                drop(fault);
-                told
-            }
+            Err(fault) => put_fault(out, fault),
         }
     }
 }

@@ -8,7 +8,7 @@ use request_codec::StateBytes;
 use silo_event::Party;
 use std::alloc::{AllocError, Global};
 use std::test::Fail;
-use turn_mailbox::{Mailbox, NoTurn, Request};
+use turn_mailbox::{Mailbox, Request};
 
 /// Calls of a mailbox for four. A request is told by its number, and 0 is for none; 1 is for yes.
 static CALLS: &str = "
@@ -237,12 +237,4 @@ fn a_copy_of_a_request_is_the_same(rt: HostRuntime) -> Result<(), Fail> {
     let told = is_second(rt.alloc(), &copy);
     drop(copy);
     told
-}
-
-#[test]
-fn no_turn_is_shown(rt: HostRuntime) -> Result<(), Fail> {
-    same(
-        NoTurn.to_string(rt.alloc())?.as_str(),
-        "no turn of that number is open",
-    )
 }

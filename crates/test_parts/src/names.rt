@@ -1,10 +1,10 @@
 //! Names of kinds, tenants, clients and grains: their faults and lengths, as keys, names read before, and their hashes by a seed.
 
 use crate::compare::{same, same_copy};
-use crate::rows::{Fields, Subject, hold, put, show, tell};
-use crate::values::{caller, grain, kind, tenant};
+use crate::rows::{Fields, Subject, hold, put, put_all, show, tell};
+use crate::values::{caller, grain, kind, numbered, tenant};
 use grain_id::{Caller, GrainId, HashSeed, IdFault, Kind, NameCache, Tenant};
-use std::alloc::{AllocError, Global};
+use std::alloc::Global;
 use std::collections::{BTreeMap, BTreeSet, HashMap};
 use std::hash::{BuildHasher, Hash};
 use std::test::Fail;
@@ -109,10 +109,10 @@ fn fault_of(alloc: Global, form: &str, text: &str) -> Option<IdFault> {
 }
 
 fn put_own(grain: &GrainId, out: &mut String) -> Result<(), Fail> {
-    put(out, grain.kind())?;
-    put(out, grain.tenant())?;
-    put(out, grain.name())?;
-    put(out, grain.text())
+    put_all(
+        out,
+        &[grain.kind(), grain.tenant(), grain.name(), grain.text()],
+    )
 }
 
 fn put_made(alloc: Global, grain: &GrainId, out: &mut String) -> Result<(), Fail> {
@@ -129,8 +129,7 @@ fn put_parts(alloc: Global, grain: Result<GrainId, Fail>, out: &mut String) -> R
 
 fn put_client(alloc: Global, caller: Result<Caller, Fail>, out: &mut String) -> Result<(), Fail> {
     let caller = caller?;
-    let (text, tenant, client) = (caller.text(), caller.tenant(), caller.client());
-    write!(out, "{text};{tenant};{client};")?;
+    put_all(out, &[caller.text(), caller.tenant(), caller.client()])?;
     put(out, caller.to_tenant(alloc)?.text())
 }
 
@@ -178,19 +177,18 @@ fn hashed(alloc: Global, seed: HashSeed, text: &str) -> Result<u64, Fail> {
     Ok(seed.hash_one(&grain))
 }
 
-/// The text of a grain, by number. By the fixed seed all of these have one hash: the eight bytes before the number are what the
-/// sixteen before them lead to, so that a product is 0.
-fn of_one_hash(alloc: Global, number: u32) -> Result<String, AllocError> {
-    format!(in alloc; "counter/red:nfnb0vHDf,J7{number:08}0123456789abcdef")
-}
+/// What stands before a number of eight digits in the texts of grains that have one hash by the fixed seed: the last eight bytes of it
+/// are what the sixteen before them lead to, so that a product is 0.
+const BEFORE_THE_NUMBER: &str = "counter/red:nfnb0vHDf,J7";
 
 fn add_hash(
     alloc: Global,
     found: &mut BTreeSet<u64>,
     seed: HashSeed,
-    number: u32,
+    number: u64,
 ) -> Result<(), Fail> {
-    let text = of_one_hash(alloc, number)?;
+    let mut text = numbered(alloc, BEFORE_THE_NUMBER, number)?;
+    text.push_str("0123456789abcdef")?;
     found.insert(hashed(alloc, seed, &text)?)?;
     Ok(())
 }
@@ -198,7 +196,7 @@ fn add_hash(
 /// How many hashes a thousand such grains have.
 fn hashes_of_a_thousand(alloc: Global, seed: HashSeed) -> Result<usize, Fail> {
     let mut found = BTreeSet::new(alloc);
-    for number in 0..1000 {
+    for number in 10_000_000..10_001_000 {
         add_hash(alloc, &mut found, seed, number)?;
     }
     Ok(found.len())
@@ -281,19 +279,14 @@ fn names_are_read_compared_and_hashed(rt: HostRuntime) -> Result<(), Fail> {
     hold(rt.alloc(), &mut names, NAMES)
 }
 
-/// The text of a grain, by number.
-fn numbered(alloc: Global, number: u32) -> Result<String, AllocError> {
-    format!(in alloc; "counter/red:{number}")
-}
-
 /// Reads a grain, which is to have this text.
 fn reads(names: &mut NameCache, alloc: Global, text: &str) -> Result<(), Fail> {
     same(names.read_grain(alloc, text)?.text() == text, true)
 }
 
 /// Reads the grain of a number twice.
-fn reads_twice(names: &mut NameCache, alloc: Global, number: u32) -> Result<(), Fail> {
-    let text = numbered(alloc, number)?;
+fn reads_twice(names: &mut NameCache, alloc: Global, number: u64) -> Result<(), Fail> {
+    let text = numbered(alloc, "counter/red:", number)?;
     reads(names, alloc, &text)?;
     reads(names, alloc, &text)
 }

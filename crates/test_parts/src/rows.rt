@@ -6,6 +6,7 @@
 
 use crate::compare::same_at;
 use std::alloc::Global;
+use std::error::Error;
 use std::fmt::Debug;
 use std::test::Fail;
 
@@ -89,4 +90,19 @@ pub fn tell<T: Debug + Drop>(out: &mut String, found: Result<T, Fail>) -> Result
 pub fn put(out: &mut String, text: &str) -> Result<(), Fail> {
     out.push_str(text)?;
     Ok(out.push(';')?)
+}
+
+/// Writes texts of a list: a caller with several then ends once.
+pub fn put_all(out: &mut String, texts: &[&str]) -> Result<(), Fail> {
+    for text in texts {
+        put(out, *text)?;
+    }
+    Ok(())
+}
+
+/// Writes a fault as it is shown to a reader. One of memory is no wanted answer, so the row fails and says it.
+pub fn put_fault<E: Error + Drop>(out: &mut String, fault: E) -> Result<(), Fail> {
+    let told = write!(out, "{fault}");
+    drop(fault);
+    Ok(told?)
 }

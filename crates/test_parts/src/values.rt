@@ -22,9 +22,9 @@ pub fn kind(alloc: Global, text: &str) -> Result<Kind, Fail> {
     Ok(Kind::read(alloc, text)?)
 }
 
-/// A letter and a number.
-pub fn numbered(alloc: Global, letter: char, number: u64) -> Result<String, Fail> {
-    Ok(format!(in alloc; "{letter}{number}")?)
+/// A text and a number behind it.
+pub fn numbered(alloc: Global, before: &str, number: u64) -> Result<String, Fail> {
+    Ok(format!(in alloc; "{before}{number}")?)
 }
 
 /// The JSON of a text.
