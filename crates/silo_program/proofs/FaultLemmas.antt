@@ -1,7 +1,7 @@
 -- What the program says of a fault, by the status that it ends with.
 use Rattle.command_parts.specs.declared.failure.Cause.{Cause}
 use Rattle.command_parts.specs.declared.failure.End.{End}
-use Rattle.silo_program.specs.Ends.{AreRefusedBy, EndsAs, FailsBy, IsFaultOf, RefusesFolder}
+use Rattle.silo_program.specs.Ends.{AreRefusedBy, AskForFolder, EndsAs, FailsBy, IsFaultOf, RefusesFolder, RefusesJournal, RefusesLog}
 use Rattle.data_command.specs.Data.{LogClaims}
 use Rattle.command_parts.specs.Files.{FileClaims}
 use Rattle.std.proofs.Common.{List, Option, inl, inr, ℕ, ⊎_elim, ◌≡◌, ◌≢◌, ◌⊎◌}
@@ -14,6 +14,14 @@ use Rattle.command_parts.specs.Streams.{IsUnbegun, Tells, TellsEnd}
 use Rattle.command_parts.specs.Status.{end_status, failure_text, status_of, told_text}
 use Rattle.command_parts.specs.declared.failure.End.TheVariants as end
 use Rattle.command_parts.specs.declared.failure.ProgramFault.TheVariants as fault
+
+module _ (words : List Text) (files : FileClaims) (log : LogClaims) (from left : Option (List ℕ)) (reading : Reading) (before after : Option (List ℕ)) (writing : WriterCalls) where
+  -- with status 2 no file was written, but perhaps in a folder of data that is asked for
+  pub untouched_by : (why : ProgramFault) → status_of why ≡ 2 → IsFaultOf words files log why from left reading before after writing → ((folder : Text) → ¬ AskForFolder words folder) → files.same
+  untouched_by (fault.Failed why) two is none = absurd (cc (two))
+  untouched_by (fault.Refused text) two is none =
+      ⊎_elim (λ words_so. words_so.3) (λ k. absurd (none k.folder (k.age, k.asked.given, k.sends, k.sync, k.asked.arguments, k.asked.asked))) is
+  untouched_by (fault.NoJournal text) two is none = absurd (cc (two))
 
 module _ (words : List Text) (files : FileClaims) (log : LogClaims) (from left : Option (List ℕ)) (reading : Reading) (before after : Option (List ℕ)) (writing : WriterCalls) (said told : Option (List ℕ)) (telling : WriterCalls) where
   -- with status 1 the program failed
@@ -30,6 +38,13 @@ module _ (words : List Text) (files : FileClaims) (log : LogClaims) (from left :
   refused_by (fault.Refused text) two is tells =
       (string_bytes text, ⊎_elim (λ words_so. inl (words_so.0, words_so.3)) (λ folder_so. inr folder_so) is, tells)
   refused_by (fault.NoJournal text) two is tells = absurd (cc (two))
+
+  -- with status 4 a file has no journal, or the log of a folder isn't gone on with
+  pub unread_by : (why : ProgramFault) → status_of why ≡ 4 → IsFaultOf words files log why from left reading before after writing → Tells said told telling (told_text why)
+      → (text : Text) × (RefusesJournal words files text from left before after ⊎ RefusesLog words log text from left reading before after) × Tells said told telling text
+  unread_by (fault.Failed why) four is tells = absurd (cc (four))
+  unread_by (fault.Refused text) four is tells = absurd (cc (four))
+  unread_by (fault.NoJournal text) four is tells = (string_bytes text, is, tells)
 
 -- with status 0 all is well, and what is told of it is told
 pub ends_well : (how : End) (words : List Text) (files : FileClaims) (log : LogClaims) (from left before after said told : Option (List ℕ)) (writing : WriterCalls) → end_status how ≡ 0 → EndsAs how words files log from left before after → TellsEnd said told writing how

@@ -7,8 +7,7 @@ use Rattle.data_command.specs.Texts.{IsDataFault}
 use Rattle.data_command.specs.declared.fault.DataFault.{DataFault}
 use Rattle.data_command.specs.declared.fault.DataFault.TheVariants as data_fault
 use Rattle.silo_program.specs.Ends.{AnswersInFolder, AskForFolder, AskForJournal, AskForKeeping, EndsAs, EndsServing, IsAnsweringFault, IsFaultOf, IsFolderFault}
-use Rattle.silo_program.specs.Ends.{IsNamingFault, IsServingFault, IsStreamFault, KeepsFolder, LeavesFiles, ServesInput, ShowsText, WritesAnswered}
-use Rattle.silo_program.specs.Ends.{WritesJournal}
+use Rattle.silo_program.specs.Ends.{IsNamingFault, IsServingFault, IsStreamFault, LeavesFiles, ServesInput, ShowsText}
 use Rattle.command_parts.specs.Files.{FileClaims}
 use Rattle.command_parts.specs.Streams.{IsUnbegun}
 use Rattle.command_parts.specs.declared.failure.Cause.TheVariants as cause
@@ -135,6 +134,18 @@ module _ (words : List Text) (files : FileClaims) (log : LogClaims) (from left :
 
   pub stream_faults : {T : Type 0} (result : Result T ProgramFault) → IfErr result (λ why. IsStreamFault words why from left reading before after writing) → IfErr result (λ why. IsFaultOf words files log why from left reading before after writing)
   stream_faults result is = IfErr-weaker result (λ why. IsStreamFault words why from left reading before after writing) (λ why. IsFaultOf words files log why from left reading before after writing) stream_fault is
+
+-- ---- lines aren't answered at once
+
+module _ (words : List Text) (files : FileClaims) (log : LogClaims) (from left : Option (List ℕ)) (reading : Reading) (before after : Option (List ℕ)) (writing : WriterCalls) where
+  answering_fault : (why : ProgramFault) → IsAnsweringFault words files why from left reading before after writing → IsFaultOf words files log why from left reading before after writing
+  answering_fault (fault.Failed why) is = ⊎_elim (λ early. inl (inl early)) (λ fails. inr (inr (inr (inl fails)))) is
+  answering_fault (fault.Refused text) is = inl is
+  answering_fault (fault.NoJournal text) is = absurd is
+
+  pub answering_faults : {T : Type 0} (result : Result T ProgramFault) → IfErr result (λ why. IsAnsweringFault words files why from left reading before after writing) → IfErr result (λ why. IsFaultOf words files log why from left reading before after writing)
+  answering_faults result is =
+      IfErr-weaker result (λ why. IsAnsweringFault words files why from left reading before after writing) (λ why. IsFaultOf words files log why from left reading before after writing) answering_fault is
 
 -- ---- lines are answered at once
 

@@ -2,7 +2,7 @@ use Rattle.std.proofs.KnownBytes.{Keeps-refl}
 use Rattle.command_parts.specs.Files.{claims}
 use Rattle.std.proofs.Common.{refl, rules}
 use Rattle.silo_words.specs.Words.{texts_of}
-use Rattle.silo_program.proofs.TaskLemmas.{ends_shown, migration_faults, stream_faults}
+use Rattle.silo_program.proofs.TaskLemmas.{answering_faults, ends_shown, migration_faults, stream_faults}
 use Rattle.silo_program.proofs.SeedLemmas.{not_seeded}
 use Rattle.silo_program.proofs.program.answer.Goals as goal
 
@@ -25,3 +25,15 @@ returns-clause-fault g c =
     let words = texts_of c.args.words.now in
     let files = claims g.F.WholeFiles.may_hold g.F.WholeFiles.may_fail g.F.WholeFiles.may_leave c.args.files.now c.args.files.now in
     migration_faults words files _ c.in-Migrate.path.now (search rules) refl _ _ _ _ _ _ (Keeps-refl _) c.migrate_file.result c.migrate_file.ensures.fault
+
+pub returns-in-Answer-default-default-default-default-Some-default-clause-journal : goal.returns-in-Answer-default-default-default-default-Some-default-clause-journal
+returns-in-Answer-default-default-default-default-Some-default-clause-journal g c = c.answer_in_folder.ensures.journal (texts_of c.args.words.now) (search rules)
+
+pub returns-in-Answer-default-default-default-default-None-default-clause-journal : goal.returns-in-Answer-default-default-default-default-None-default-clause-journal
+returns-in-Answer-default-default-default-default-None-default-clause-journal g c = c.answer_tenants.ensures.journal (texts_of c.args.words.now) _ (search rules)
+
+pub returns-in-Answer-default-default-default-default-None-default-clause-fault : goal.returns-in-Answer-default-default-default-default-None-default-clause-fault
+returns-in-Answer-default-default-default-default-None-default-clause-fault g c =
+    let words = texts_of c.args.words.now in
+    let files = claims g.F.WholeFiles.may_hold g.F.WholeFiles.may_fail g.F.WholeFiles.may_leave c.args.files.now c.answer_tenants.new.files in
+    answering_faults words files _ _ _ _ _ _ _ c.answer_tenants.result (c.answer_tenants.ensures.fault words (search rules))

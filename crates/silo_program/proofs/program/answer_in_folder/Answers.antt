@@ -1,9 +1,8 @@
 use Rattle.std.proofs.lemmas.Result.{err_from_is_err_and}
 use Rattle.std.proofs.Common.{refl}
 use Rattle.command_parts.specs.Files.{claims}
-use Rattle.data_command.specs.Data.{log_claims}
 use Rattle.silo_program.proofs.SeedLemmas.{not_numbered}
-use Rattle.silo_program.proofs.TaskLemmas.{folder_answered, folder_failed, folder_left, folder_refused}
+use Rattle.silo_program.proofs.TaskLemmas.{folder_failed, folder_refused}
 use Rattle.silo_program.proofs.program.answer_in_folder.Goals as goal
 
 pub returns-in_err-named-clause-fault : goal.returns-in_err-named-clause-fault

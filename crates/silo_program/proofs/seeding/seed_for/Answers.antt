@@ -1,4 +1,3 @@
-use Rattle.silo_words.specs.Words.{AskFor}
 use Rattle.std.proofs.Common.{subst, sym}
 use Rattle.silo_program.proofs.SeedLemmas.{TakesMaps, ask_for_work, with_work}
 use Rattle.silo_program.proofs.seeding.seed_for.Goals as goal
