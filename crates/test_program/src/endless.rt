@@ -1,8 +1,12 @@
 //! A file whose end is not met.
 
+ghost use Rattle.std.specs.Prelude.{None, true};
+
 use crate::runs::left_by;
-use silo_program::{FileFault, WholeFiles};
+use log_host::{HostFault, LogFiles, LogHost, OpenFault};
+use silo_program::{DataFiles, FileFault, Output, WholeFiles};
 use std::alloc::Global;
+use std::io::Write;
 use std::random::RandomSource;
 use std::sync::Wait;
 use std::test::Fail;
@@ -20,6 +24,44 @@ impl WholeFiles for EndlessFile {
     fn write_whole(&mut self, _alloc: Global, _path: &str, _bytes: &[u8]) -> Result<(), FileFault> {
         Err(FileFault::Failed)
     }
+}
+
+impl LogHost for EndlessFile {
+    ghost begun = { λ _. None };
+
+    ghost acts = { λ _. None };
+
+    ghost failed = { λ _. true };
+
+    fn append(&mut self, _bytes: &[u8]) -> Result<(), HostFault> {
+        Err(HostFault)
+    }
+
+    fn sync(&mut self) -> Result<(), HostFault> {
+        Err(HostFault)
+    }
+
+    fn tell<W: Write>(&mut self, _output: &mut Output<W>, _bytes: &[u8]) -> Result<(), HostFault> {
+        Err(HostFault)
+    }
+}
+
+impl LogFiles for EndlessFile {
+    fn open(&mut self, _alloc: Global, _path: &str) -> Result<Option<Vec<u8>>, OpenFault> {
+        Err(OpenFault::Write)
+    }
+
+    fn begin(&mut self, _head: &[u8]) -> Result<(), HostFault> {
+        Err(HostFault)
+    }
+
+    fn keep(&mut self, _length: usize) -> Result<(), HostFault> {
+        Err(HostFault)
+    }
+}
+
+impl DataFiles for EndlessFile {
+    fn set_sync(&mut self, _sync: bool) {}
 }
 
 /// Whether the command ends with status 1, and tells of too much input and writes nothing.
