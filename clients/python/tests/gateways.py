@@ -6,6 +6,7 @@ import json
 import os
 import pathlib
 import re
+import shutil
 import signal
 import socket
 import subprocess
@@ -97,6 +98,10 @@ class Gateway:
             self.process.send_signal(number)
         return self.process.wait(2 * SECONDS)
 
+    def _is_room_gone(self) -> bool:
+        shutil.rmtree(self._room.name, ignore_errors=True)
+        return not os.path.exists(self._room.name)
+
     def close(self) -> None:
         if self._told.closed:
             return
@@ -105,6 +110,8 @@ class Gateway:
         self.process.wait()
         told = self.told()
         self._told.close()
+        # what a killed gateway ran may still write there for a moment
+        soon(self._is_room_gone)
         self._room.cleanup()
         # whatever it tells is a line with a time and a level
         odd = [line for line in told.splitlines() if not TOLD_LINE.match(line)]
