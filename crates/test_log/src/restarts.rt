@@ -3,7 +3,7 @@
 use grain_kinds::Kinds;
 use grain_storage::{FusedStorage, MemoryStorage};
 use line_answer::{AnsweringSilo, Input, Output};
-use log_answer::{Again, LogFault, LogPlace, answer_again, answer_logged};
+use log_answer::{Again, AgainFault, LogFault, LogPlace, answer_again, answer_logged};
 use log_host::{Did, Fuse, MemoryLog};
 use std::alloc::Global;
 use std::test::Fail;
@@ -73,11 +73,24 @@ fn add_acts(left: &mut Left, did: &[Did]) -> Result<(), Fail> {
     Ok(())
 }
 
-fn again(alloc: Global, silo: &mut LoggedSilo, bytes: &[u8]) -> Result<Again, Fail> {
+/// The first bytes, so many at most.
+fn first_bytes(bytes: &[u8], length: usize) -> &[u8] {
+    &bytes[..bytes.len().min(length)]
+}
+
+fn started(
+    alloc: Global,
+    silo: &mut LoggedSilo,
+    bytes: &[u8],
+) -> Result<Result<Again, AgainFault>, Fail> {
     if silo.is_stopped() {
         return Err(Fail::from("the silo has stopped"));
     }
-    match answer_again(alloc, silo, 10, FIRST, bytes) {
+    Ok(answer_again(alloc, silo, 10, FIRST, bytes))
+}
+
+fn again(alloc: Global, silo: &mut LoggedSilo, bytes: &[u8]) -> Result<Again, Fail> {
+    match started(alloc, silo, bytes)? {
         Ok(again) => Ok(again),
         Err(why) => Err(Fail::new(format_args!("{why:?}"))),
     }
@@ -109,7 +122,7 @@ fn lived(alloc: Global, begun: &[u8], lines: &str, fuse: Fuse) -> Result<Left, F
     drop(silo);
     let failed = end?.is_err();
     let mut left = Left {
-        file: Vec::from_slice(alloc, &begun[..start.length])?,
+        file: Vec::from_slice(alloc, first_bytes(begun, start.length))?,
         safe: start.length,
         told: output.writer,
         failed,
@@ -159,7 +172,7 @@ fn a_silo_starts_again_as_it_was(rt: HostRuntime) -> Result<(), Fail> {
 /// five are told a line.
 fn is_kept(alloc: Global, left: &Left) -> Result<bool, Fail> {
     let told = left.told.iter().filter(|byte| **byte == b'\n').count();
-    let kept = answered(alloc, &left.file.as_slice()[..left.safe])?;
+    let kept = answered(alloc, first_bytes(left.file.as_slice(), left.safe))?;
     let all = answered(alloc, left.file.as_slice())?;
     Ok(TOLD.as_bytes().starts_with(left.told.as_slice()) && told <= kept && kept <= all)
 }
@@ -184,10 +197,10 @@ fn a_log_that_tells_otherwise_is_refused(rt: HostRuntime) -> Result<(), Fail> {
     let mut log = Vec::new(alloc);
     log_text::push_line(&mut log, b"{}")?;
     log_text::push_mark(&mut log, &FIRST.name, FIRST.sum, 1)?;
-    let start = answer_again(alloc, &mut silo, 10, FIRST, log.as_slice());
+    let start = started(alloc, &mut silo, log.as_slice());
     drop(silo);
     holds(
         "another sum",
-        matches!(start, Err(log_answer::AgainFault::Otherwise(1))),
+        matches!(start?, Err(AgainFault::Otherwise(1))),
     )
 }
