@@ -5,6 +5,7 @@
 
 from __future__ import annotations
 
+from .kinds import NEWEST
 from .row import Row
 from .short_lines import (A, B, BLUE, BLUE_A, NOT_A_REQUEST, NOT_NOW, SHEET, SWEEP, at, begin, call, line, no, ok, poke,
                           seen, status, text, tick, told)
@@ -24,7 +25,7 @@ def send(number: int, relay: str, method: str, args: object = None) -> list:
 ADD = {"by": 1}
 # a relay that sends what it is sent to its second, and that to a counter
 CHAIN = join(1, R, RB) + join(2, RB, A)
-FIRST = ["silo-journal 3", "kinds 2", "age 900000", "tenant red 2 4"]
+FIRST = ["silo-journal 3", f"kinds {NEWEST}", "age 900000", "tenant red 2 4"]
 CLOSED = text([*FIRST, "close 0"])
 
 ANSWERED = [

@@ -11,13 +11,14 @@ import tempfile
 from typing import Callable, Sequence
 
 from .data import DiskFolder, InUse
+from .kinds import NEWEST
 from .log import Words, Writer, cut_head
 from .program import run_program
 from .row import Row
 from .short_lines import (A, BLUE, LINE_TOO_LONG, NOT_A_REQUEST, SHEET, SWEEP, call, no, ok, poke, seen, status, text, tick, told)
 
 NUMBER = 0x0123456789ABCDEF
-WORDS = Words(2, 1000, 900000, (), (("red", 2, 4),))
+WORDS = Words(NEWEST, 1000, 900000, (), (("red", 2, 4),))
 ANSWER = ["answer", "--data", "d", "red:2:4"]
 ADD, MORE, GET = call(1, A, "add", {"by": 3}), call(2, A, "add", {"by": 4}), call(3, A, "get")
 LONG = "x" * 65_537
@@ -43,10 +44,11 @@ def refused(name: str, before: str, status: int, errors: str, words: Sequence[st
 
 FIRST, SECOND = (ADD, ok(1, 3)), (MORE, ok(2, 7))
 TWO = log_of(FIRST, SECOND)
+LAST_MARK = TWO.splitlines(True)[-1]
 REST = call(4, A, "save") + call(5, A, "rest")
 RELAYS = (call(1, "relay/red:r", "join", {"grain": "counter/blue:x"}) + call(2, "relay/red:r", "send", {"method": "get", "args": None}),
           ok(1, True) + ok(2, 1) + told(error=40, from_="relay/red:r", text="tenant red may not call a grain of tenant blue"))
-SET_UP = Words(2, 0, 10, (("counter", 5), ("sheet", 7)), (("red", 3, 4), ("blue", 1, 1)))
+SET_UP = Words(NEWEST, 0, 10, (("counter", 5), ("sheet", 7)), (("red", 3, 4), ("blue", 1, 1)))
 SET_UP_WORDS = ["answer", "--sends", "0", "--age", "10", "--ages", "sheet=7,counter=5", "--data", "d", "red:3:4", "blue:1:1"]
 
 DATA = [
@@ -77,6 +79,17 @@ DATA = [
             "silo: log line 8 is refused"),
     refused("a line that no log has, with two marks behind it, is refused", TWO.replace("+" + ADD[0], "-" + ADD[0]), 4,
             "silo: log line 7 is refused"),
+    refused("so is a mark whose beginning was changed, with a good batch behind it, at its line", TWO.replace("=01", "=11", 1), 4,
+            "silo: log line 8 is refused"),
+    refused("and at the next mark, if it is a line that was asked then", TWO.replace("=", "+", 1), 4, "silo: log line 10 is refused"),
+    refused("a mark that was joined with the line before it", TWO.replace("\n=", "x=", 1), 4, "silo: log line 9 is refused"),
+    refused("a last mark whose lines are gone", log_of(FIRST) + LAST_MARK, 4, "silo: log line 9 is refused"),
+    refused("a last mark that stands before its lines", TWO.replace("+" + MORE[0] + "\n", "") + "+" + MORE[0] + "\n", 4,
+            "silo: log line 9 is refused"),
+    refused("a last mark that says another length", TWO.replace(LAST_MARK, LAST_MARK.replace("5d", "5e", 1)), 4,
+            "silo: log line 10 is refused"),
+    goes_on("one that says another sum is cut off with its lines", TWO.replace(LAST_MARK, LAST_MARK[:-2] + "x\n"), GET, ok(3, 3),
+            log_of(FIRST, (GET, ok(3, 3)))),
     refused("a log that is answered otherwise than it was told", log_of(FIRST, (MORE, ok(2, 8)), (GET, ok(3, 7))), 4,
             "silo: log line 10 is answered otherwise"),
     refused("that comes before a fault behind it", log_of((ADD, ok(1, 4)), SECOND).replace('"by":4', '"by":5'), 4,
@@ -89,6 +102,7 @@ DATA = [
     refused("a log of no form", "silo-log 2\n" + TWO[11:], 4, "silo: log line 1 is refused"),
     refused("a log of no byte", "", 4, "silo: log line 1 is refused"),
     refused("a head that is torn", log_of()[:-1], 2, "silo: the data have other words"),
+    refused("a head whose number was changed", TWO.replace("of 0", "of 1"), 2, "silo: the data have other words"),
     goes_on("nothing is brought to the disk", TWO, GET, ok(3, 7), log_of(FIRST, SECOND, (GET, ok(3, 7))),
             ["answer", "--data=d", "--no-sync", "red:2:4"]),
     Row("a tenant argument that is refused comes before the folder", ["answer", "--data", "d", "red"], GET, [], 2,

@@ -2,6 +2,7 @@
 
 from __future__ import annotations
 
+from .kinds import NEWEST
 from .row import Row
 from .short_lines import A, text
 from .values import OLD_MESSAGE_FORM, spelled, spelled_message
@@ -13,6 +14,8 @@ SERVED = ["silo-journal 1", "age 900000", "tenant red 2 4",
 JOURNAL = SERVED + ["reply red/c1 1 ok 030000000000000003", "close 5"]
 SECOND = ["silo-journal 2", "kinds 2", *JOURNAL[1:]]
 THIRD = ["silo-journal 3", "kinds 2", *(one.replace(f"{A} 01", f"{A} 02") for one in JOURNAL[1:])]
+# the same as the program writes it
+WRITTEN = [THIRD[0], f"kinds {NEWEST}", *THIRD[2:]]
 
 
 def audited(name, journal, out, status=0, errors="") -> Row:
@@ -128,7 +131,7 @@ JOURNALS = [
             ["tenant red: 5 steps, 1 replies, 0 rows"]),
     refused_at("a journal of the second form without its last line", text(SECOND[:-1]), 11),
     refused_at("no logic", text(["silo-journal 2", *JOURNAL[1:]]), 2),
-    refused_at("a logic that there isn't", text(["silo-journal 2", "kinds 3", *JOURNAL[1:]]), 2),
+    refused_at("a logic that there isn't", text(["silo-journal 2", f"kinds {NEWEST + 1}", *JOURNAL[1:]]), 2),
     refused_at("the logic 0", text(["silo-journal 2", "kinds 0", *JOURNAL[1:]]), 2),
     refused_at("a logic in a journal of the first form", text(["silo-journal 1", "kinds 1", *JOURNAL[1:]]), 2),
     refused_at("the logic behind the age", text(["silo-journal 2", "age 900000", "kinds 2", *JOURNAL[2:]]), 2),

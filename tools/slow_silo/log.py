@@ -1,7 +1,8 @@
 """A log's text: what a silo was asked, in batches, each closed by a mark; written, and read as a crash may have left it.
 
-A mark has the log's name, the sum of all that was told so far, and the sum of all bytes of the log before it. What stands behind the
-last batch whose mark fits was never acknowledged. It is refused if it has two marks of the log: a crash leaves one at most.
+A mark has the log's name, the length of its batch's lines, the sum of all that was told so far, and the sum of all bytes of the log
+before it. What stands after the last batch whose mark fits was never acknowledged, if a crash can have left it: then it has no mark of
+the log, or the one of a batch that was half written, which stands in its place. Anything else is refused.
 """
 
 from __future__ import annotations
@@ -71,26 +72,38 @@ def words_text(words: Words) -> bytes:
     return "".join(line + "\n" for line in lines).encode()
 
 
+def head_with(words: Words, number: bytes) -> bytes:
+    start = FORM + words_text(words) + b"of " + number + b" "
+    return start + spelled(sum_after(0, start)) + b"\n"
+
+
 def head_text(words: Words, number: int) -> bytes:
-    return FORM + words_text(words) + b"of " + spelled(number) + b"\n"
+    return head_with(words, spelled(number))
 
 
-def mark_start(name: bytes, told: bytes) -> bytes:
-    return b"=" + name + b" " + told + b" "
+def mark_head(name: bytes) -> bytes:
+    return b"=" + name + b" "
+
+
+def mark_start(name: bytes, length: int, told: bytes) -> bytes:
+    """What stands in a mark before its sum, after so many bytes of lines."""
+    return mark_head(name) + spelled(length) + b" " + told + b" "
 
 
 class Place:
     """Where a log goes on: its name, the sum of the log so far, and the sum of all that was told."""
 
     def __init__(self, head: bytes):
-        self.name = head[-1 - DIGITS:][:NAME]
+        # the head ends with the number and its own sum
+        self.name = head[-2 * (DIGITS + 1):][:NAME]
         self.sum = sum_after(0, head)
         self.told = 0
 
     def batch(self, lines: Sequence[bytes], told: bytes) -> bytes:
         """The next batch: lines that were asked together, with the mark that says what was told for them."""
         self.told = sum_after(self.told, told)
-        body = b"".join(b"+" + line + b"\n" for line in lines) + mark_start(self.name, spelled(self.told))
+        asked = b"".join(b"+" + line + b"\n" for line in lines)
+        body = asked + mark_start(self.name, len(asked), spelled(self.told))
         self.sum = sum_after(self.sum, body)
         return body + spelled(self.sum) + b"\n"
 
@@ -124,35 +137,46 @@ def cut_head(words: Words, content: bytes) -> tuple:
     """The number in the head, and where the head ends."""
     if not content.startswith(FORM):
         raise NotALog()
-    start = FORM + words_text(words) + b"of "
-    end = content.find(b"\n", len(start))
-    if not content.startswith(start) or end != len(start) + DIGITS:
+    at = len(FORM + words_text(words) + b"of ")
+    number = content[at:at + DIGITS]
+    head = head_with(words, number)
+    if not content.startswith(head) or b"\n" in number:
         raise OtherWords()
-    return content[len(start):end], end + 1
+    return number, len(head)
 
 
 def read_log(words: Words, content: bytes) -> Read:
     number, at = cut_head(words, content)
     name = number[:NAME]
+    told_at = NAME + DIGITS + 3
     before = sum_after(0, content[:at])
-    whole = content.count(b"\n", 0, at)
     batches: list = []
     lines: list = []
     length = end = at
-    faulty = marks = None
     for line in content[at:].split(b"\n")[:-1]:
-        if marks is not None:
-            marks += line.startswith(b"=" + name + b" ")
-        elif line.startswith(b"+"):
+        if line.startswith(b"+"):
             lines.append(line[1:])
         else:
-            start = mark_start(name, line[NAME + 2:NAME + 2 + DIGITS])
+            told = line[told_at:told_at + DIGITS]
+            start = mark_start(name, end - length, told)
             after = sum_after(before, content[length:end] + start)
-            if line == start + spelled(after):
-                batches.append(Batch(tuple(lines), line[NAME + 2:NAME + 2 + DIGITS]))
-                whole += len(lines) + 1
-                before, lines, length = after, [], end + len(line) + 1
-            else:
-                faulty, marks = whole + len(lines) + 1, int(line.startswith(b"=" + name + b" "))
+            if line != start + spelled(after):
+                break
+            batches.append(Batch(tuple(lines), told))
+            before, lines, length = after, [], end + len(line) + 1
         end += len(line) + 1
-    return Read(tuple(batches), length, faulty if marks is not None and marks > 1 else None)
+    return Read(tuple(batches), length, fault_in(name, content, length))
+
+
+def fault_in(name: bytes, content: bytes, length: int) -> Optional[int]:
+    """The line at which a log is refused for what stands after the last batch that is read; none if that is cut off."""
+    left = content[length:].split(b"\n")[:-1]
+    marks, at = [], 0
+    for line in left:
+        if line.startswith(mark_head(name)):
+            # whether it stands in its place
+            marks.append(line.startswith(mark_head(name) + spelled(at)))
+        at += len(line) + 1
+    if marks in ([], [True]):
+        return None
+    return content.count(b"\n", 0, length) + 1 + next(place for place, line in enumerate(left) if not line.startswith(b"+"))

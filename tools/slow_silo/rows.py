@@ -7,7 +7,7 @@ import json
 from .answer_rows import ANSWERED
 from .bytes_rows import BYTES_IN_JOURNALS, BYTES_IN_LINES, MIGRATED
 from .data_rows import DATA
-from .journal_rows import JOURNALS, THIRD
+from .journal_rows import JOURNALS, WRITTEN
 from .resting_rows import AGES_OF_KINDS, MISFIT, RESTING
 from .row import Row
 from .short_lines import (A, B, BLUE, BLUE_A, LINE_TOO_LONG, NOT_A_REQUEST, NOT_NOW, RELAY, SHEET, SWEEP, at,
@@ -325,11 +325,11 @@ LANES = [
         OF_THREE_LANES, REPLIES_OF_THREE_LANES),
     Row("one client is served", ["serve", "--workers", "1", "red:2:4"], FIRST_CALL, ok(1, 3)),
     Row("what was served is written down", ["serve", "--workers", "1", "--journal", "j", "red:2:4"],
-        FIRST_CALL, ok(1, 3), files_after={"j": text(THIRD)}),
+        FIRST_CALL, ok(1, 3), files_after={"j": text(WRITTEN)}),
     Row("the ages of kinds are written down, ascending",
         ["serve", "--workers", "1", "--journal", "j", "--ages", "sheet=5,counter=7,c=86400000", "red:2:4"],
         FIRST_CALL, ok(1, 3),
-        files_after={"j": text(THIRD[:3] + ["kind c 86400000", "kind counter 7", "kind sheet 5"] + THIRD[3:])}),
+        files_after={"j": text(WRITTEN[:3] + ["kind c 86400000", "kind counter 7", "kind sheet 5"] + WRITTEN[3:])}),
     Row("lanes of grains that rest", ["serve", "red:2:4"],
         FIRST_CALL + call(2, A, "rest") + status(3) + call(4, A, "get") + call(5, A, "stay", {"for": 0}),
         ok(1, 3) + ok(2, None) + seen(3, 0, 0, 2) + ok(4, 0) + no(5, 61, MISFIT)),

@@ -2,6 +2,7 @@
 
 from __future__ import annotations
 
+from .kinds import NEWEST
 from .row import Row
 from .short_lines import A, B, LINE_TOO_LONG, NOT_A_REQUEST, begin, call, no, ok, seen, status, tick
 
@@ -33,5 +34,5 @@ TOLD = [
         errors="silo: lines: 0\nsilo: answers: 0\nsilo: steps: 0"),
     Row("the same behind the journal", [*SERVE, "--summary", "--journal", "j", "red:2:4"], [], [],
         errors="silo: lines: 0\nsilo: answers: 0\nsilo: steps: 0",
-        files_after={"j": "silo-journal 3\nkinds 2\nage 900000\ntenant red 2 4\nclose 0\n"}),
+        files_after={"j": f"silo-journal 3\nkinds {NEWEST}\nage 900000\ntenant red 2 4\nclose 0\n"}),
 ]
