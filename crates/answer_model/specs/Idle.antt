@@ -1,7 +1,6 @@
 -- Between two things that are asked nothing waits and nothing is open, and each client is answered at once.
 use Rattle.std.specs.Prelude.{◌≡◌, ℕ, true, List, [], ◌∷◌, ◌++◌, Option, Some, None, Result}
-use Rattle.std.specs.FinMap as map
-use Rattle.grain_id.specs.Names.{Client, Grain}
+use Rattle.grain_id.specs.Names.{Client}
 use Rattle.request_codec.specs.Tree.{Tree}
 use Rattle.silo_event.specs.Asker.{asking_of}
 use Rattle.silo_event.specs.declared.fault.Fault.{Fault}
@@ -11,16 +10,11 @@ use Rattle.silo_event.specs.declared.reply.Reply.{Reply}
 use Rattle.silo_event.specs.declared.step.Step.{Step}
 use Rattle.grain_logic.specs.Logic.{Logic}
 use Rattle.silo_model.specs.Calls.{told}
-use Rattle.silo_model.specs.Collected.{IsIdle}
-use Rattle.silo_model.specs.Machine.{Entry, Entries}
+pub use Rattle.silo_model.specs.Collected.{AllIdle}
 use Rattle.silo_model.specs.Opening.{Setup}
 use Rattle.silo_model.specs.Journal.{LeadsTo}
 use Rattle.silo_model.specs.Whole.{Whole}
 use Rattle.answer_model.specs.Answering.{Asked, answered, is_asked, whole_stepper}
-
--- Each entry is ready, no request waits, and no turn is open.
-abbrev pub AllIdle : Entries → Type 0
-AllIdle entries = (grain : Grain) (e : Entry) → map.get entries grain ≡ Some e → IsIdle e
 
 -- each of the replies is told to a grain
 abbrev pub IsToGrain : Party → Type 0

@@ -31,7 +31,7 @@ use Rattle.silo_model.proofs.EffectKinds.{Does, IsLeft, Role, accepts, asks, beg
 use Rattle.silo_model.proofs.EffectKinds.{opens, pokes, role_of, stays, tells, unloads}
 use Rattle.silo_model.proofs.Isolation.{Did, by_owner, did_does, place_in}
 use Rattle.silo_model.proofs.Moves.{count-with_sends, count_of, remains_count}
-use Rattle.silo_model.proofs.Opening.{get-fresh_accounts}
+use Rattle.silo_model.proofs.Opening.{get-fresh_accounts, new_accounts, none_at}
 use Rattle.silo_model.proofs.SharedSteps.{LeavesLess, shared_leaves}
 use Rattle.silo_model.proofs.Tests.{either_way, on_found, on_test}
 use Rattle.silo_model.proofs.TurnMaps.{Turns, get-remove_open}
@@ -519,8 +519,10 @@ opens_numbered : (journal : History) → AreNumbered (opening (setup_of journal)
 unfolding opening
 opens_numbered journal = record {
   counts = λ tenant.
-      subst (λ (o : Option Account). count_of o ≤ last_number) (sym (get-fresh_accounts journal.tenants tenant)) (fresh_count (limits_of journal.tenants tenant));
-  entries = λ g e found. absurd (none-some e (sym (map.get-empty grain_cmp g) ∙ found));
+      subst (λ (o : Option Account). count_of o ≤ last_number)
+      (sym (ap (λ accounts. map.get accounts tenant) (new_accounts journal.tenants) ∙ get-fresh_accounts journal.tenants tenant))
+      (fresh_count (limits_of journal.tenants tenant));
+  entries = λ g e found. absurd (none-some e (sym (none_at (setup_of journal) refl g) ∙ found));
   rows = λ g r found. absurd (none-some r (sym (map.get-empty grain_cmp g) ∙ found));
   replies = tt;
 }

@@ -1,6 +1,6 @@
 -- The tenants of whom a journal has something are reported, and a tenant's machine starts as the journal says.
 use Rattle.silo_model.proofs.Common.{◌++◌, ◌||◌, ◌∙◌, ◌∷◌, ◌≡◌, ◌≢◌, Bool, Grain, List, Row, Step, [], ap, cond, false, filter, flat_map}
-use Rattle.silo_model.proofs.Common.{list_any-append, map_list, or_right, owner_of, refl, same_text, start_of, tenant_of, texts, true, ℕ}
+use Rattle.silo_model.proofs.Common.{limits_of, list_any-append, map_list, or_right, owner_of, refl, same_text, start_of, tenant_of, texts, true, ℕ}
 use Rattle.std.specs.Prelude.{option_to_list}
 use Rattle.std.proofs.lemmas.Bool.{or_left}
 use Rattle.finite_maps.proofs.Keys.{key_turned}
@@ -10,6 +10,7 @@ use Rattle.journal_text.specs.declared.recorded.RecordedReply.{RecordedReply}
 use Rattle.audit_model.specs.Parts.{is_listed, is_owned_by, own_steps, owners_in, replies_for, rows_for, tenants_in}
 use Rattle.audit_model.specs.Report.{OwnersReported, StartsAsRecorded}
 use Rattle.audit_model.proofs.Tenants.{tenants_in_order}
+use Rattle.silo_model.proofs.Opening.{new_account_of}
 use Rattle.silo_model.proofs.Tests.{on_found}
 
 -- there is something in the list
@@ -90,5 +91,5 @@ unfolding start_of
 starts_as_recorded = record {
   age = λ journal tenant. refl;
   ages = λ journal tenant. refl;
-  limits = λ journal tenant. refl;
+  limits = λ journal tenant. new_account_of tenant (limits_of journal.tenants tenant);
 }

@@ -8,7 +8,7 @@ use Rattle.grain_storage.specs.declared.row.Row.{Row}
 use Rattle.silo_event.specs.Owner.{owner_of, tenant_of}
 use Rattle.silo_event.specs.declared.reply.Reply.{Reply}
 use Rattle.silo_event.specs.declared.step.Step.{Step}
-use Rattle.silo_model.specs.Opening.{Setup}
+use Rattle.silo_model.specs.Opening.{Setup, new_setup}
 use Rattle.silo_model.specs.Run.{restricted_to}
 use Rattle.silo_model.specs.Whole.{Whole, is_of}
 use Rattle.journal_text.specs.RecordedReply.{recorded_of}
@@ -17,9 +17,9 @@ use Rattle.journal_text.specs.declared.recorded.RecordedReply.{RecordedReply}
 
 -- ---- the silo of a journal
 
--- the journal's table and ages, and no rows: a journal is of a silo that opened with none
+-- the journal's table and ages, no rows, and nothing kept: a journal is of a silo that opened with none
 abbrev pub setup_of : History → Setup
-setup_of journal = record { tenants = journal.tenants; age = journal.age; ages = journal.ages; rows = map.empty }
+setup_of journal = new_setup journal.tenants journal.age journal.ages map.empty
 
 -- replies as a journal records them
 abbrev pub all_recorded : List Reply → List RecordedReply

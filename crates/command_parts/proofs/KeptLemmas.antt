@@ -5,12 +5,11 @@ use Rattle.command_parts.specs.Files.{FileClaims, claims}
 use Rattle.silo_core.specs.History.{History}
 use Rattle.command_parts.specs.Kept.{KeepsJournal, KeepsSecond, MayFailAgain, MayFailAt, WritesFirst, empty_journal}
 use Rattle.std.specs.Prelude.{IfSome, OnOk}
-use Rattle.silo_model.specs.Opening.{Setup, opening}
+use Rattle.silo_model.specs.Opening.{opening}
 use Rattle.tenant_gate.specs.Table.{Table}
 use Rattle.std.specs.FinMap.{empty, entries, len-empty, len-entries}
 use Rattle.journal_text.specs.Text.{history_of, journal_text}
-use Rattle.command_parts.specs.Journals.{kinds_number}
-use Rattle.command_parts.specs.Setups.{setup_of}
+use Rattle.command_parts.specs.Setups.{Start, Version, starting}
 use Rattle.std.proofs.lemmas.List.{nil_from_length}
 use Rattle.grain_id.specs.Names.{grain_cmp}
 use Rattle.grain_storage.specs.declared.row.Row.{Row}
@@ -21,9 +20,9 @@ use Rattle.grain_storage.specs.declared.row.Row.{Row}
 pub entries-empty : entries (empty {X = Row} {R = grain_cmp}) ≡ []
 entries-empty = nil_from_length _ (sym (len-entries (empty {X = Row} {R = grain_cmp})) ∙ len-empty grain_cmp Row)
 
-pub no_step : (tenants : Table) (age : ℕ) (ages : Ages) → journal_text (history_of kinds_number age ages tenants [] [] []) ≡ empty_journal (setup_of tenants age ages)
+pub no_step : (version : Version) (tenants : Table) (age : ℕ) (ages : Ages) → journal_text (history_of version.number age ages tenants [] [] []) ≡ empty_journal (starting version tenants age ages)
 unfolding opening
-no_step tenants age ages = ap (λ rows. journal_text (history_of kinds_number age ages tenants [] [] rows)) (sym entries-empty)
+no_step version tenants age ages = ap (λ rows. journal_text (history_of version.number age ages tenants [] [] rows)) (sym entries-empty)
 
 -- ---- what is so unless the first journal wasn't written
 
@@ -34,21 +33,21 @@ kept_unless P (Err why) never h = absurd (never why refl)
 -- ---- both
 
 -- The journal of no step was written to the path, if one is given.
-abbrev pub HasFirst : Setup → FileClaims → Option (List ℕ) → Type 0
-HasFirst setup files journal = IfSome journal (λ path. files.written path (empty_journal setup))
+abbrev pub HasFirst : Start → FileClaims → Option (List ℕ) → Type 0
+HasFirst start files journal = IfSome journal (λ path. files.written path (empty_journal start))
 
-pub has_first : (setup : Setup) (files : FileClaims) (journal : Option (List ℕ)) → WritesFirst setup files journal → HasFirst setup files journal
-has_first setup files None a = tt
-has_first setup files (Some path) a = a
+pub has_first : (start : Start) (files : FileClaims) (journal : Option (List ℕ)) → WritesFirst start files journal → HasFirst start files journal
+has_first start files None a = tt
+has_first start files (Some path) a = a
 
-module _ {F : Type 0} (may_hold : F → List ℕ → List ℕ → Type 0) (may_fail : F → List ℕ → Type 0) (may_leave : F → List ℕ → List ℕ → F → Type 0) (setup : Setup) (old mid new : F) where
+module _ {F : Type 0} (may_hold : F → List ℕ → List ℕ → Type 0) (may_fail : F → List ℕ → Type 0) (may_leave : F → List ℕ → List ℕ → F → Type 0) (start : Start) (old mid new : F) where
   abbrev of : F → F → FileClaims
   of = claims may_hold may_fail may_leave
 
-  pub both_kept : (journal : Option (List ℕ)) (silo : History) → HasFirst setup (of old mid) journal → KeepsJournal (of mid new) journal silo → KeepsSecond setup (of old new) journal silo
+  pub both_kept : (journal : Option (List ℕ)) (silo : History) → HasFirst start (of old mid) journal → KeepsJournal start.version (of mid new) journal silo → KeepsSecond start (of old new) journal silo
   both_kept None silo a b = tt
   both_kept (Some path) silo a b = record { written = (mid, a, b.written); held = b.held; no_difference = b.no_difference }
 
-  pub may_fail_again : (journal : Option (List ℕ)) → HasFirst setup (of old mid) journal → MayFailAt (may_fail mid) journal → MayFailAgain setup (of old new) journal
+  pub may_fail_again : (journal : Option (List ℕ)) → HasFirst start (of old mid) journal → MayFailAt (may_fail mid) journal → MayFailAgain start (of old new) journal
   may_fail_again None a fails = absurd fails
   may_fail_again (Some path) a fails = (mid, a, fails)

@@ -4,33 +4,35 @@ ghost use Rattle.std.specs.Prelude.{◌≡◌, [], IfErr, OnOk, option_map};
 ghost use Rattle.std.specs.FinMap.{entries};
 ghost use Rattle.command_parts.specs.Files.{claims};
 ghost use Rattle.command_parts.specs.Kept.{IsKeepingCause, KeepsJournal, WritesAtMost};
+ghost use Rattle.command_parts.specs.Setups.{version_of};
 
 use crate::failure::Cause;
 use crate::files::{FileFault, WholeFiles};
-use grain_kinds::NewestKinds;
-use grain_storage::MemoryStorage;
+use grain_logic::GrainLogic;
+use grain_storage::GrainStorage;
 use silo_core::Silo;
+use silo_journal::write_journal;
 use std::alloc::Global;
-use tenant_audit::write_journal;
 
-/// Writes the journal of the silo to the file at the path, if there is a path.
-pub fn keep_journal<F: WholeFiles>(
+/// Writes the journal of the silo, under the number of its logic, to the file at the path, if there is a path.
+pub fn keep_journal<F: WholeFiles, S: GrainStorage, L: GrainLogic>(
     alloc: Global,
     files: &mut F,
     journal: Option<&str>,
-    silo: &Silo<MemoryStorage, NewestKinds>,
+    silo: &Silo<S, L>,
+    kinds: u8,
 ) -> Result<(), Cause>
     requires { entries silo.now.setup.rows ≡ [] }
-    ensures kept { OnOk result (KeepsJournal (claims F.may_hold F.may_fail F.may_leave files.old files.new)
+    ensures kept { OnOk result (KeepsJournal (version_of L.logic kinds) (claims F.may_hold F.may_fail F.may_leave files.old files.new)
         (option_map (λ path. path.now) journal.entry) silo.now) }
-    ensures alone { WritesAtMost (claims F.may_hold F.may_fail F.may_leave files.old files.new)
+    ensures alone { WritesAtMost (version_of L.logic kinds) (claims F.may_hold F.may_fail F.may_leave files.old files.new)
         (option_map (λ path. path.now) journal.entry) silo.now }
     ensures fault { IfErr result (λ why. IsKeepingCause (F.may_fail files.old) (option_map (λ path. path.now) journal.entry) why) }
 {
     let Some(path) = journal else {
         return Ok(());
     };
-    let Ok(text) = write_journal(alloc, silo) else {
+    let Ok(text) = write_journal(alloc, silo, kinds) else {
         return Err(Cause::Memory);
     };
     match files.write_whole(alloc, path, text.as_slice()) {

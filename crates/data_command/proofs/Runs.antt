@@ -1,8 +1,7 @@
 -- What a run makes of a log that was started.
 use Rattle.std.proofs.Common.{◌≡◌, ◌∙◌, ℕ, List, [], Option, None, Some, inl, inr, refl, sym, subst}
 use Rattle.std.specs.Prelude.{IfSome}
-use Rattle.grain_kinds.specs.Kinds.{newest_kinds}
-use Rattle.silo_model.specs.Opening.{Setup, opening}
+use Rattle.silo_model.specs.Opening.{opening}
 use Rattle.silo_model.specs.Whole.{Whole}
 use Rattle.silo_core.specs.History.{History}
 use Rattle.line_protocol.specs.Lines.{lines_of}
@@ -17,24 +16,25 @@ use Rattle.log_answer.specs.Answers.{silo_log}
 use Rattle.log_answer.specs.Runs.{AnswersLogged, GoesOn, KeepsLines, StopsLogged}
 use Rattle.log_answer.specs.declared.running.LogFault.{LogFault}
 use Rattle.log_answer.specs.declared.running.LogFault.TheVariants as log_fault
+use Rattle.command_parts.specs.Setups.{Start}
 use Rattle.command_parts.specs.declared.failure.Cause.{Cause}
 use Rattle.data_command.specs.Data.{AnswersData, DataFailsBy, DataLasts, HasBehind, HasInput, HasLines, LogView, data_log, since}
 use Rattle.data_command.specs.Words.{head_words}
 use Rattle.data_command.specs.inside.Starts.{IsStarted, running_cause}
 use Rattle.data_command.specs.declared.fault.DataFault.TheVariants as data_fault
 
-module _ (setup : Setup) (sends : ℕ) (old mid new : LogView) (place : LogPlace) (silo : History) (st : IsStarted setup sends (since old mid) place silo) where
-  behind_there : old.acts ≡ Some [] → HasBehind (head_words setup sends) st.starts.number old.begun st.starts.bytes
-  behind_there e = subst (λ (o : Option (List ℕ)). HasBehind (head_words setup sends) st.starts.number o st.starts.bytes) (st.was e) st.starts.behind
+module _ (start : Start) (sends : ℕ) (old mid new : LogView) (place : LogPlace) (silo : History) (st : IsStarted start sends (since old mid) place silo) where
+  behind_there : old.acts ≡ Some [] → HasBehind (head_words start sends) st.starts.number old.begun st.starts.bytes
+  behind_there e = subst (λ (o : Option (List ℕ)). HasBehind (head_words start sends) st.starts.number o st.starts.bytes) (st.was e) st.starts.behind
 
   -- at each moment what was told is what the log answers
   pub run_lasts : (synced : Option (List Act)) → synced ≡ mid.acts
-      → ((w : Whole) (first : ℕ) (h : Held) (acts : List Act) → synced ≡ Some acts → GoesOn newest_kinds sends w first place h silo.whole → LastsFrom (silo_log newest_kinds sends w place.name first) h acts new.acts)
-      → DataLasts setup sends (since old new)
+      → ((w : Whole) (first : ℕ) (h : Held) (acts : List Act) → synced ≡ Some acts → GoesOn start.version.logic sends w first place h silo.whole → LastsFrom (silo_log start.version.logic sends w place.name first) h acts new.acts)
+      → DataLasts start sends (since old new)
   run_lasts synced same lasts e =
-      let h = restarted (data_log setup sends st.starts.number) st.starts.bytes in
-      let first = first_sum (head_words setup sends) st.starts.number in
-      let l = lasts (opening setup) first h [] (same ∙ st.fresh e) st.goes_on in
+      let h = restarted (data_log start sends st.starts.number) st.starts.bytes in
+      let first = first_sum (head_words start sends) st.starts.number in
+      let l = lasts (opening start.setup) first h [] (same ∙ st.fresh e) st.goes_on in
       inr (record {
         number = st.starts.number;
         bytes = st.starts.bytes;
@@ -42,7 +42,7 @@ module _ (setup : Setup) (sends : ℕ) (old mid new : LogView) (place : LogPlace
         behind = behind_there e;
         acts = l.more;
         are = l.acts;
-        always = subst (λ (name : List ℕ). Always (Lasts (silo_log newest_kinds sends (opening setup) name first)) h l.more) st.named l.always;
+        always = subst (λ (name : List ℕ). Always (Lasts (silo_log start.version.logic sends (opening start.setup) name first)) h l.more) st.named l.always;
       })
 
   module _ (fresh : Reading) (none : IsFresh fresh) (from : Option (List ℕ)) where
@@ -56,42 +56,42 @@ module _ (setup : Setup) (sends : ℕ) (old mid new : LogView) (place : LogPlace
 
     -- the log has all lines
     pub run_has : (synced : Option (List Act)) → synced ≡ mid.acts
-        → IfSome (left_of fresh from) (λ bytes. (w : Whole) (first : ℕ) (h : Held) (acts : List Act) → synced ≡ Some acts → GoesOn newest_kinds sends w first place h silo.whole
-        → KeepsLines (silo_log newest_kinds sends w place.name first) h (lines_of bytes) acts new.acts) → HasInput setup sends (since old new) from
+        → IfSome (left_of fresh from) (λ bytes. (w : Whole) (first : ℕ) (h : Held) (acts : List Act) → synced ≡ Some acts → GoesOn start.version.logic sends w first place h silo.whole
+        → KeepsLines (silo_log start.version.logic sends w place.name first) h (lines_of bytes) acts new.acts) → HasInput start sends (since old new) from
     run_has synced same keeps e = go from (from_start _ keeps)
       where
-        go : (o : Option (List ℕ)) → IfSome o (λ bytes. (w : Whole) (first : ℕ) (h : Held) (acts : List Act) → synced ≡ Some acts → GoesOn newest_kinds sends w first place h silo.whole
-            → KeepsLines (silo_log newest_kinds sends w place.name first) h (lines_of bytes) acts new.acts) → IfSome o (λ input. HasLines setup sends (since old new) (lines_of input))
+        go : (o : Option (List ℕ)) → IfSome o (λ bytes. (w : Whole) (first : ℕ) (h : Held) (acts : List Act) → synced ≡ Some acts → GoesOn start.version.logic sends w first place h silo.whole
+            → KeepsLines (silo_log start.version.logic sends w place.name first) h (lines_of bytes) acts new.acts) → IfSome o (λ input. HasLines start sends (since old new) (lines_of input))
         go None k = tt
         go (Some input) k = record {
           number = st.starts.number;
           bytes = st.starts.bytes;
           numbered = st.starts.numbered;
           behind = behind_there e;
-          keeps = subst (λ (name : List ℕ). KeepsLines (silo_log newest_kinds sends (opening setup) name (first_sum (head_words setup sends) st.starts.number))
-              (restarted (data_log setup sends st.starts.number) st.starts.bytes) (lines_of input) [] new.acts) st.named
-              (k (opening setup) (first_sum (head_words setup sends) st.starts.number) (restarted (data_log setup sends st.starts.number) st.starts.bytes) [] (same ∙ st.fresh e) st.goes_on);
+          keeps = subst (λ (name : List ℕ). KeepsLines (silo_log start.version.logic sends (opening start.setup) name (first_sum (head_words start sends) st.starts.number))
+              (restarted (data_log start sends st.starts.number) st.starts.bytes) (lines_of input) [] new.acts) st.named
+              (k (opening start.setup) (first_sum (head_words start sends) st.starts.number) (restarted (data_log start sends st.starts.number) st.starts.bytes) [] (same ∙ st.fresh e) st.goes_on);
         }
 
     module _ (left before after : Option (List ℕ)) where
       -- all was answered
-      pub run_answers : (then : History) (count : ℕ) → IfSome (left_of fresh from) (λ bytes. AnswersLogged newest_kinds sends bytes count silo then left before after) → AnswersData setup sends (since old new) from left before after
+      pub run_answers : (then : History) (count : ℕ) → IfSome (left_of fresh from) (λ bytes. AnswersLogged start.version.logic sends bytes count silo then left before after) → AnswersData start sends (since old new) from left before after
       run_answers then count h = record {
         found = st.found;
         was = st.was;
         silo = silo;
         starts = st.starts;
         new = then;
-        answered = counted (λ n input. AnswersLogged newest_kinds sends input n silo then left before after) count from (from_start _ h);
+        answered = counted (λ n input. AnswersLogged start.version.logic sends input n silo then left before after) count from (from_start _ h);
       }
 
       -- or not
-      pub run_fails : (reading : Reading) (why : LogFault) (told : Cause) → told ≡ running_cause why → IfSome (left_of fresh from) (λ bytes. StopsLogged newest_kinds sends bytes reading left new.failed silo.whole before after why)
-          → DataFailsBy setup sends (since old new) (data_fault.Failed told) from left reading before after
-      run_fails reading why told is h = subst (λ (c : Cause). DataFailsBy setup sends (since old new) (data_fault.Failed c) from left reading before after) (sym is) (by why h)
+      pub run_fails : (reading : Reading) (why : LogFault) (told : Cause) → told ≡ running_cause why → IfSome (left_of fresh from) (λ bytes. StopsLogged start.version.logic sends bytes reading left new.failed silo.whole before after why)
+          → DataFailsBy start sends (since old new) (data_fault.Failed told) from left reading before after
+      run_fails reading why told is h = subst (λ (c : Cause). DataFailsBy start sends (since old new) (data_fault.Failed c) from left reading before after) (sym is) (by why h)
         where
-          by : (why : LogFault) → IfSome (left_of fresh from) (λ bytes. StopsLogged newest_kinds sends bytes reading left new.failed silo.whole before after why)
-              → DataFailsBy setup sends (since old new) (data_fault.Failed (running_cause why)) from left reading before after
+          by : (why : LogFault) → IfSome (left_of fresh from) (λ bytes. StopsLogged start.version.logic sends bytes reading left new.failed silo.whole before after why)
+              → DataFailsBy start sends (since old new) (data_fault.Failed (running_cause why)) from left reading before after
           by log_fault.Read k = inr (record { found = st.found; was = st.was; silo = silo; starts = st.starts; stopped = from_start _ k })
           by log_fault.Write k = inr (record { found = st.found; was = st.was; silo = silo; starts = st.starts; stopped = from_start _ k })
           by log_fault.Memory k = inr (record { found = st.found; was = st.was; silo = silo; starts = st.starts; stopped = from_start _ k })

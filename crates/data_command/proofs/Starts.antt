@@ -1,8 +1,8 @@
 -- What a start makes of a log.
 use Rattle.std.proofs.Common.{◌≡◌, ◌<◌, ◌++◌, ◌+◌, ◌-◌, ◌∙◌, ℕ, Bool, Err, Ok, OnErr, OnOk, Result, false, true, true≢false, List, [], ◌∷◌, length, take, Option, None, Some, inl, inr, refl, sym, ap, subst, ◌⊎◌, zero, suc, arith, append-nil, length-append}
 use Rattle.std.specs.Result.{is_err}
-use Rattle.grain_kinds.specs.Kinds.{newest_kinds}
-use Rattle.silo_model.specs.Opening.{Setup, opening}
+use Rattle.grain_logic.specs.Logic.{Logic}
+use Rattle.silo_model.specs.Opening.{opening}
 use Rattle.silo_model.specs.Whole.{Whole, shown_to}
 use Rattle.answer_model.specs.Answering.{all_answered, machine_stepper}
 use Rattle.answer_model.specs.Apart.{asked_by}
@@ -33,6 +33,7 @@ use Rattle.log_answer.specs.declared.starting.AgainFault.TheVariants as again_wh
 use Rattle.log_answer.proofs.Led.{silos_grow}
 use Rattle.log_answer.proofs.Lives.{starts_go_on}
 use Rattle.command_parts.specs.Kept.{opened}
+use Rattle.command_parts.specs.Setups.{Start}
 use Rattle.data_command.specs.Data.{DataLasts, HasBehind, LastsOn, LogView, StartFailsBy, data_log, place_of, since}
 use Rattle.data_command.specs.declared.fault.DataFault.{DataFault}
 use Rattle.data_command.specs.Words.{head_words}
@@ -74,31 +75,31 @@ all_kept kept (b ∷ left) rest is none = absurd (none (subst (λ (bs : List ℕ
 -- ---- the silo
 
 -- it goes on from another history that is at the same place
-led_from : (sends : ℕ) (old other new : History) (lines : List (List ℕ)) → old.setup ≡ other.setup → old.whole ≡ other.whole → IsLed newest_kinds sends old lines new → IsLed newest_kinds sends other lines new
-led_from sends old other new lines setup whole is = record {
+led_from : (logic : Logic) (sends : ℕ) (old other new : History) (lines : List (List ℕ)) → old.setup ≡ other.setup → old.whole ≡ other.whole → IsLed logic sends old lines new → IsLed logic sends other lines new
+led_from logic sends old other new lines setup whole is = record {
   setup = is.setup ∙ setup;
-  whole = is.whole ∙ ap (λ (w : Whole). led newest_kinds sends w lines) whole;
+  whole = is.whole ∙ ap (λ (w : Whole). led logic sends w lines) whole;
   idle = is.idle;
   own = λ tenant.
-      is.own tenant ∙ ap (λ (w : Whole). all_answered (machine_stepper newest_kinds) sends (shown_to tenant w) (asked_by tenant (asks_of (heard_of lines)))) whole;
+      is.own tenant ∙ ap (λ (w : Whole). all_answered (machine_stepper logic) sends (shown_to tenant w) (asked_by tenant (asks_of (heard_of lines)))) whole;
 }
 
-module _ (setup : Setup) (sends : ℕ) where
+module _ (start : Start) (sends : ℕ) where
   -- what was told before is the beginning of what a log answers that is left as it was
-  pub lasts_there : (number bytes : List ℕ) → IsNumber number → Lasts (data_log setup sends number) (restarted (data_log setup sends number) bytes)
+  pub lasts_there : (number bytes : List ℕ) → IsNumber number → Lasts (data_log start sends number) (restarted (data_log start sends number) bytes)
   lasts_there number bytes numbered =
-      settled_lasts (data_log setup sends number) (silos_grow newest_kinds sends (opening setup)) (restarted (data_log setup sends number) bytes) _
-      (starts_settled (data_log setup sends number) bytes (plain_name number numbered))
+      settled_lasts (data_log start sends number) (silos_grow start.version.logic sends (opening start.setup)) (restarted (data_log start sends number) bytes) _
+      (starts_settled (data_log start sends number) bytes (plain_name number numbered))
 
   -- ---- a log that was found
 
-  module _ (old mid : LogView) (number bytes : List ℕ) (numbered : IsNumber number) (finds : Finds old.acts old.begun mid.acts mid.begun (Some (head_text (head_words setup sends) number ++ bytes))) where
+  module _ (old mid : LogView) (number bytes : List ℕ) (numbered : IsNumber number) (finds : Finds old.acts old.begun mid.acts mid.begun (Some (head_text (head_words start sends) number ++ bytes))) where
     -- what was found
-    found_there : old.acts ≡ Some [] → mid.begun ≡ Some (head_text (head_words setup sends) number ++ bytes)
+    found_there : old.acts ≡ Some [] → mid.begun ≡ Some (head_text (head_words start sends) number ++ bytes)
     found_there e = (finds e).0.1 ∙ sym (finds e).1
 
-    behind_there : old.acts ≡ Some [] → HasBehind (head_words setup sends) number old.begun bytes
-    behind_there e = subst (λ (o : Option (List ℕ)). HasBehind (head_words setup sends) number o bytes) (finds e).1 refl
+    behind_there : old.acts ≡ Some [] → HasBehind (head_words start sends) number old.begun bytes
+    behind_there e = subst (λ (o : Option (List ℕ)). HasBehind (head_words start sends) number o bytes) (finds e).1 refl
 
     -- it is cut, or not
     pub cut_fresh : (new : LogView) (k : ℕ) → Cuts mid.acts mid.begun new.acts new.begun k → old.acts ≡ Some [] → new.acts ≡ Some []
@@ -106,26 +107,26 @@ module _ (setup : Setup) (sends : ℕ) where
 
     -- the batches that were read
     abbrev kept_file : List ℕ
-    kept_file = (restarted (data_log setup sends number) bytes).file
+    kept_file = (restarted (data_log start sends number) bytes).file
 
-    kept_there : kept_file ++ left_in own_sums (name_of number) (first_sum (head_words setup sends) number) bytes ≡ bytes
-    kept_there = read_stands own_sums (name_of number) (first_sum (head_words setup sends) number) bytes
+    kept_there : kept_file ++ left_in own_sums (name_of number) (first_sum (head_words start sends) number) bytes ≡ bytes
+    kept_there = read_stands own_sums (name_of number) (first_sum (head_words start sends) number) bytes
 
-    pub cut_kept : (new : LogView) (k : ℕ) → k ≡ length (head_text (head_words setup sends) number) + length (restarted (data_log setup sends number) bytes).file → Cuts mid.acts mid.begun new.acts new.begun k
-        → old.acts ≡ Some [] → new.begun ≡ Some (head_text (head_words setup sends) number ++ (restarted (data_log setup sends number) bytes).file)
+    pub cut_kept : (new : LogView) (k : ℕ) → k ≡ length (head_text (head_words start sends) number) + length (restarted (data_log start sends number) bytes).file → Cuts mid.acts mid.begun new.acts new.begun k
+        → old.acts ≡ Some [] → new.begun ≡ Some (head_text (head_words start sends) number ++ (restarted (data_log start sends number) bytes).file)
     cut_kept new k is cuts e =
         (cuts _ (finds e).0.0 (found_there e)).1
-        ∙ ap (λ (j : ℕ). Some (take j (head_text (head_words setup sends) number ++ bytes))) is
-        ∙ ap (λ (bs : List ℕ). Some bs) (take_kept (head_text (head_words setup sends) number) kept_file _ bytes kept_there)
+        ∙ ap (λ (j : ℕ). Some (take j (head_text (head_words start sends) number ++ bytes))) is
+        ∙ ap (λ (bs : List ℕ). Some bs) (take_kept (head_text (head_words start sends) number) kept_file _ bytes kept_there)
 
-    pub uncut_kept : ¬ (length (restarted (data_log setup sends number) bytes).file < length bytes) → old.acts ≡ Some []
-        → mid.begun ≡ Some (head_text (head_words setup sends) number ++ (restarted (data_log setup sends number) bytes).file)
-    uncut_kept none e = found_there e ∙ ap (λ (bs : List ℕ). Some (head_text (head_words setup sends) number ++ bs)) (all_kept kept_file _ bytes kept_there none)
+    pub uncut_kept : ¬ (length (restarted (data_log start sends number) bytes).file < length bytes) → old.acts ≡ Some []
+        → mid.begun ≡ Some (head_text (head_words start sends) number ++ (restarted (data_log start sends number) bytes).file)
+    uncut_kept none e = found_there e ∙ ap (λ (bs : List ℕ). Some (head_text (head_words start sends) number ++ bs)) (all_kept kept_file _ bytes kept_there none)
 
-    pub cut_lasts : (new : LogView) (k : ℕ) → MayCut mid.acts mid.begun new.acts new.begun k → DataLasts setup sends (since old new)
+    pub cut_lasts : (new : LogView) (k : ℕ) → MayCut mid.acts mid.begun new.acts new.begun k → DataLasts start sends (since old new)
     cut_lasts new k may e = by (may _ (finds e).0.0 (found_there e))
       where
-        by : IsAt new.acts new.begun mid.begun ⊎ IsAt new.acts new.begun (Some (take k (head_text (head_words setup sends) number ++ bytes))) → IsAt new.acts new.begun old.begun ⊎ LastsOn setup sends (since old new)
+        by : IsAt new.acts new.begun mid.begun ⊎ IsAt new.acts new.begun (Some (take k (head_text (head_words start sends) number ++ bytes))) → IsAt new.acts new.begun old.begun ⊎ LastsOn start sends (since old new)
         by (inl at) = inl (at.0, at.1 ∙ (finds e).0.1)
         by (inr at) = inr (record {
           number = number;
@@ -138,43 +139,43 @@ module _ (setup : Setup) (sends : ℕ) where
         })
 
     -- so many bytes they are
-    pub kept_length : (silo then : History) (again : Again) (place : LogPlace) → place ≡ place_of (head_words setup sends) number → AnswersAgain newest_kinds sends place bytes silo then again
-        → again.length ≡ length (restarted (data_log setup sends number) bytes).file
+    pub kept_length : (silo then : History) (again : Again) (place : LogPlace) → place ≡ place_of (head_words start sends) number → AnswersAgain start.version.logic sends place bytes silo then again
+        → again.length ≡ length (restarted (data_log start sends number) bytes).file
     kept_length silo then again place is done =
-        let d = subst (λ (p : LogPlace). AnswersAgain newest_kinds sends p bytes silo then again) is done in
-        d.kept ∙ ap (λ (bs : List Batch). length (log_text own_sums (name_of number) (first_sum (head_words setup sends) number) bs)) d.read
+        let d = subst (λ (p : LogPlace). AnswersAgain start.version.logic sends p bytes silo then again) is done in
+        d.kept ∙ ap (λ (bs : List Batch). length (log_text own_sums (name_of number) (first_sum (head_words start sends) number) bs)) d.read
 
     -- the silo answered its lines again
-    pub started_again : (new : LogView) (silo then : History) (again : Again) (place : LogPlace) → silo.setup ≡ setup → silo.whole ≡ opening setup → place ≡ place_of (head_words setup sends) number
-        → AnswersAgain newest_kinds sends place bytes silo then again → (old.acts ≡ Some [] → new.acts ≡ Some [])
-        → (old.acts ≡ Some [] → new.begun ≡ Some (head_text (head_words setup sends) number ++ (restarted (data_log setup sends number) bytes).file)) → IsStarted setup sends (since old new) again.place then
+    pub started_again : (new : LogView) (silo then : History) (again : Again) (place : LogPlace) → silo.setup ≡ start.setup → silo.whole ≡ opening start.setup → place ≡ place_of (head_words start sends) number
+        → AnswersAgain start.version.logic sends place bytes silo then again → (old.acts ≡ Some [] → new.acts ≡ Some [])
+        → (old.acts ≡ Some [] → new.begun ≡ Some (head_text (head_words start sends) number ++ (restarted (data_log start sends number) bytes).file)) → IsStarted start sends (since old new) again.place then
     started_again new silo then again place same there is done fresh kept =
-        let d = subst (λ (p : LogPlace). AnswersAgain newest_kinds sends p bytes silo then again) is done in
+        let d = subst (λ (p : LogPlace). AnswersAgain start.version.logic sends p bytes silo then again) is done in
         record {
-          found = Some (head_text (head_words setup sends) number ++ bytes);
+          found = Some (head_text (head_words start sends) number ++ bytes);
           was = λ e. (finds e).1;
           starts = record {
             number = number;
             bytes = bytes;
             numbered = numbered;
             behind = refl;
-            leads = led_from sends silo (opened setup) then _ same there (subst (λ (bs : List Batch). IsLed newest_kinds sends silo (lines_of bs) then) d.read d.leads);
+            leads = led_from start.version.logic sends silo (opened start.setup) then _ same there (subst (λ (bs : List Batch). IsLed start.version.logic sends silo (lines_of bs) then) d.read d.leads);
           };
           named = d.name;
-          goes_on = subst (λ (w : Whole). GoesOn newest_kinds sends w (first_sum (head_words setup sends) number) again.place
-              (restarted (silo_log newest_kinds sends w (name_of number) (first_sum (head_words setup sends) number)) bytes) then.whole) there
-              (starts_go_on newest_kinds sends (place_of (head_words setup sends) number) bytes silo then again (plain_name number numbered) d);
+          goes_on = subst (λ (w : Whole). GoesOn start.version.logic sends w (first_sum (head_words start sends) number) again.place
+              (restarted (silo_log start.version.logic sends w (name_of number) (first_sum (head_words start sends) number)) bytes) then.whole) there
+              (starts_go_on start.version.logic sends (place_of (head_words start sends) number) bytes silo then again (plain_name number numbered) d);
           fresh = fresh;
           kept = kept;
         }
 
     -- or it didn't
-    pub not_again : (failed : Bool) (silo : History) (place : LogPlace) (why : AgainFault) (told : DataFault) → silo.whole ≡ opening setup → place ≡ place_of (head_words setup sends) number
-        → StopsAgain newest_kinds sends place bytes silo.whole why → told ≡ again_fault (length (whole_lines (head_text (head_words setup sends) number))) why
-        → StartFailsBy setup sends (since old (record { begun = mid.begun; acts = mid.acts; failed = failed })) told
-    not_again failed silo place again_why.Memory told there is stops told_is = subst (λ (f : DataFault). StartFailsBy setup sends (since old (record { begun = mid.begun; acts = mid.acts; failed = failed })) f) (sym told_is) tt
+    pub not_again : (failed : Bool) (silo : History) (place : LogPlace) (why : AgainFault) (told : DataFault) → silo.whole ≡ opening start.setup → place ≡ place_of (head_words start sends) number
+        → StopsAgain start.version.logic sends place bytes silo.whole why → told ≡ again_fault (length (whole_lines (head_text (head_words start sends) number))) why
+        → StartFailsBy start sends (since old (record { begun = mid.begun; acts = mid.acts; failed = failed })) told
+    not_again failed silo place again_why.Memory told there is stops told_is = subst (λ (f : DataFault). StartFailsBy start sends (since old (record { begun = mid.begun; acts = mid.acts; failed = failed })) f) (sym told_is) tt
     not_again failed silo place (again_why.Refused before) told there is stops told_is =
-        subst (λ (f : DataFault). StartFailsBy setup sends (since old (record { begun = mid.begun; acts = mid.acts; failed = failed })) f) (sym told_is) (
+        subst (λ (f : DataFault). StartFailsBy start sends (since old (record { begun = mid.begun; acts = mid.acts; failed = failed })) f) (sym told_is) (
           (λ e. (finds e).0),
           inr (record {
             number = number;
@@ -182,12 +183,12 @@ module _ (setup : Setup) (sends : ℕ) where
             numbered = numbered;
             was = λ e. (finds e).1;
             before = before;
-            refused = subst (λ (w : Whole). IsRefused newest_kinds sends (place_of (head_words setup sends) number) bytes w before) there (subst (λ (p : LogPlace). IsRefused newest_kinds sends p bytes silo.whole before) is stops);
+            refused = subst (λ (w : Whole). IsRefused start.version.logic sends (place_of (head_words start sends) number) bytes w before) there (subst (λ (p : LogPlace). IsRefused start.version.logic sends p bytes silo.whole before) is stops);
             line_is = refl;
           }),
         )
     not_again failed silo place (again_why.Otherwise before) told there is stops told_is =
-        subst (λ (f : DataFault). StartFailsBy setup sends (since old (record { begun = mid.begun; acts = mid.acts; failed = failed })) f) (sym told_is) (
+        subst (λ (f : DataFault). StartFailsBy start sends (since old (record { begun = mid.begun; acts = mid.acts; failed = failed })) f) (sym told_is) (
           (λ e. (finds e).0),
           record {
             number = number;
@@ -195,7 +196,7 @@ module _ (setup : Setup) (sends : ℕ) where
             numbered = numbered;
             was = λ e. (finds e).1;
             before = before;
-            otherwise = subst (λ (w : Whole). TellsOtherwise newest_kinds sends (place_of (head_words setup sends) number) bytes w before) there (subst (λ (p : LogPlace). TellsOtherwise newest_kinds sends p bytes silo.whole before) is stops);
+            otherwise = subst (λ (w : Whole). TellsOtherwise start.version.logic sends (place_of (head_words start sends) number) bytes w before) there (subst (λ (p : LogPlace). TellsOtherwise start.version.logic sends p bytes silo.whole before) is stops);
             line_is = refl;
           },
         )
@@ -204,9 +205,9 @@ module _ (setup : Setup) (sends : ℕ) where
 
   module _ (old mid new : LogView) (n : ℕ) (finds : Finds old.acts old.begun mid.acts mid.begun None) where
     -- the new one is settled
-    pub begun_started : (silo : History) (place : LogPlace) → silo.setup ≡ setup → silo.whole ≡ opening setup → AllIdle silo.whole.entries → place ≡ place_of (head_words setup sends) (spelled n)
-        → Begins mid.acts new.acts new.begun (head_text (head_words setup sends) (spelled n)) → IsStarted setup sends (since old new) place silo
-    begun_started silo place same there idle is begins = subst (λ (p : LogPlace). IsStarted setup sends (since old new) p silo) (sym is) (record {
+    pub begun_started : (silo : History) (place : LogPlace) → silo.setup ≡ start.setup → silo.whole ≡ opening start.setup → AllIdle silo.whole.entries → place ≡ place_of (head_words start sends) (spelled n)
+        → Begins mid.acts new.acts new.begun (head_text (head_words start sends) (spelled n)) → IsStarted start sends (since old new) place silo
+    begun_started silo place same there idle is begins = subst (λ (p : LogPlace). IsStarted start sends (since old new) p silo) (sym is) (record {
       found = None;
       was = λ e. (finds e).1;
       starts = record {
@@ -219,24 +220,24 @@ module _ (setup : Setup) (sends : ℕ) where
       named = refl;
       goes_on = record {
         plain = plain_name (spelled n) (spelled_number n);
-        settled = starts_settled (data_log setup sends (spelled n)) [] (plain_name (spelled n) (spelled_number n));
+        settled = starts_settled (data_log start sends (spelled n)) [] (plain_name (spelled n) (spelled_number n));
         leads = there;
       };
       fresh = λ e. (begins (finds e).0.0).0;
-      kept = λ e. (begins (finds e).0.0).1 ∙ ap (λ (bs : List ℕ). Some bs) (sym (append-nil (head_text (head_words setup sends) (spelled n))));
+      kept = λ e. (begins (finds e).0.0).1 ∙ ap (λ (bs : List ℕ). Some bs) (sym (append-nil (head_text (head_words start sends) (spelled n))));
     })
 
     -- or it isn't made whole
-    pub begun_lasts : MayBegin mid.acts mid.begun new.acts new.begun (head_text (head_words setup sends) (spelled n)) → DataLasts setup sends (since old new)
+    pub begun_lasts : MayBegin mid.acts mid.begun new.acts new.begun (head_text (head_words start sends) (spelled n)) → DataLasts start sends (since old new)
     begun_lasts may e = by (may (finds e).0.0)
       where
-        by : IsAt new.acts new.begun mid.begun ⊎ IsAt new.acts new.begun (Some (head_text (head_words setup sends) (spelled n))) → IsAt new.acts new.begun old.begun ⊎ LastsOn setup sends (since old new)
+        by : IsAt new.acts new.begun mid.begun ⊎ IsAt new.acts new.begun (Some (head_text (head_words start sends) (spelled n))) → IsAt new.acts new.begun old.begun ⊎ LastsOn start sends (since old new)
         by (inl at) = inl (at.0, at.1 ∙ (finds e).0.1)
         by (inr at) = inr (record {
           number = spelled n;
           bytes = [];
           numbered = spelled_number n;
-          behind = subst (λ (o : Option (List ℕ)). HasBehind (head_words setup sends) (spelled n) o []) (finds e).1 refl;
+          behind = subst (λ (o : Option (List ℕ)). HasBehind (head_words start sends) (spelled n) o []) (finds e).1 refl;
           acts = [];
           are = at.0;
           always = lasts_there (spelled n) [] (spelled_number n);

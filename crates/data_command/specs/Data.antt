@@ -1,7 +1,6 @@
 -- What is made of a folder of data, and what is answered then.
 use Rattle.std.specs.Prelude.{◌≡◌, ◌⊎◌, ◌++◌, ℕ, ◌+◌, Bool, true, List, [], length, Option, None, Some, IfSome}
-use Rattle.grain_kinds.specs.Kinds.{newest_kinds}
-use Rattle.silo_model.specs.Opening.{Setup, opening}
+use Rattle.silo_model.specs.Opening.{opening}
 use Rattle.silo_core.specs.History.{History}
 use Rattle.line_protocol.specs.Lines.{lines_of}
 use Rattle.line_protocol.specs.Reading.{Reading}
@@ -18,6 +17,7 @@ use Rattle.log_answer.specs.Starts.{IsRefused, TellsOtherwise}
 use Rattle.log_answer.specs.declared.running.LogFault.{LogFault}
 use Rattle.log_answer.specs.declared.running.LogFault.TheVariants as log_fault
 use Rattle.command_parts.specs.Kept.{opened}
+use Rattle.command_parts.specs.Setups.{Start}
 use Rattle.command_parts.specs.Streams.{IsUnbegun}
 use Rattle.command_parts.specs.declared.failure.Cause.TheVariants as cause
 use Rattle.data_command.specs.Words.{head_words}
@@ -72,19 +72,19 @@ place_of words number = record { name = name_of number; sum = first_sum words nu
 abbrev pub line_number : List ℕ → List ℕ → ℕ → ℕ
 line_number words number before = 1 + (length (whole_lines (head_text words number)) + before)
 
-module _ (setup : Setup) (sends : ℕ) where
+module _ (start : Start) (sends : ℕ) where
   -- The log of that number of a silo with so many deliveries behind a line: its lines answer what the silo tells for them from its
   -- opening on.
   abbrev pub data_log : List ℕ → Log
-  data_log number = silo_log newest_kinds sends (opening setup) (name_of number) (first_sum (head_words setup sends) number)
+  data_log number = silo_log start.version.logic sends (opening start.setup) (name_of number) (first_sum (head_words start sends) number)
 
   -- The silo is where the lines lead that were found: those of the log's whole batches. Of a new log there are none.
   pub record StartsFrom (found : Option (List ℕ)) (silo : History) : Type 0 where
     pub number : List ℕ
     pub bytes : List ℕ
     pub numbered : IsNumber number
-    pub behind : HasBehind (head_words setup sends) number found bytes
-    pub leads : IsLed newest_kinds sends (opened setup) (lines_in (data_log number) bytes) silo
+    pub behind : HasBehind (head_words start sends) number found bytes
+    pub leads : IsLed start.version.logic sends (opened start.setup) (lines_in (data_log number) bytes) silo
 
   module _ (log : LogClaims) where
     -- ---- what lasts
@@ -95,7 +95,7 @@ module _ (setup : Setup) (sends : ℕ) where
       pub number : List ℕ
       pub bytes : List ℕ
       pub numbered : IsNumber number
-      pub behind : HasBehind (head_words setup sends) number log.old.begun bytes
+      pub behind : HasBehind (head_words start sends) number log.old.begun bytes
       pub acts : List Act
       pub are : log.new.acts ≡ Some acts
       pub always : Always (Lasts (data_log number)) (restarted (data_log number) bytes) acts
@@ -109,7 +109,7 @@ module _ (setup : Setup) (sends : ℕ) where
       pub number : List ℕ
       pub bytes : List ℕ
       pub numbered : IsNumber number
-      pub behind : HasBehind (head_words setup sends) number log.old.begun bytes
+      pub behind : HasBehind (head_words start sends) number log.old.begun bytes
       pub keeps : KeepsLines (data_log number) (restarted (data_log number) bytes) lines [] log.new.acts
 
     -- the same of the lines of an input, if both are known
@@ -126,7 +126,7 @@ module _ (setup : Setup) (sends : ℕ) where
       pub silo : History
       pub starts : StartsFrom found silo
       pub new : History
-      pub answered : IfSome from (λ input. (count : ℕ) × AnswersLogged newest_kinds sends input count silo new left before after)
+      pub answered : IfSome from (λ input. (count : ℕ) × AnswersLogged start.version.logic sends input count silo new left before after)
 
     -- The same up to this fault.
     pub record StopsData (why : LogFault) (from left : Option (List ℕ)) (reading : Reading) (before after : Option (List ℕ))
@@ -136,7 +136,7 @@ module _ (setup : Setup) (sends : ℕ) where
       pub silo : History
       pub starts : StartsFrom found silo
       pub stopped : IfSome from (λ input.
-          StopsLogged newest_kinds sends input reading left log.new.failed silo.whole before after why)
+          StopsLogged start.version.logic sends input reading left log.new.failed silo.whole before after why)
 
     -- ---- a log that isn't gone on with
 
@@ -146,7 +146,7 @@ module _ (setup : Setup) (sends : ℕ) where
       pub was : IsFound log (Some found)
       pub rest : List ℕ
       pub form : found ≡ form_line ++ rest
-      pub other : (number bytes : List ℕ) → IsNumber number → ¬ (found ≡ head_text (head_words setup sends) number ++ bytes)
+      pub other : (number bytes : List ℕ) → IsNumber number → ¬ (found ≡ head_text (head_words start sends) number ++ bytes)
 
     -- It doesn't begin as a log does.
     pub record IsNoLog : Type 0 where
@@ -159,20 +159,20 @@ module _ (setup : Setup) (sends : ℕ) where
       pub number : List ℕ
       pub bytes : List ℕ
       pub numbered : IsNumber number
-      pub was : IsFound log (Some (head_text (head_words setup sends) number ++ bytes))
+      pub was : IsFound log (Some (head_text (head_words start sends) number ++ bytes))
       pub before : ℕ
-      pub refused : IsRefused newest_kinds sends (place_of (head_words setup sends) number) bytes (opening setup) before
-      pub line_is : line ≡ line_number (head_words setup sends) number before
+      pub refused : IsRefused start.version.logic sends (place_of (head_words start sends) number) bytes (opening start.setup) before
+      pub line_is : line ≡ line_number (head_words start sends) number before
 
     -- For the batch whose mark is this line something else would be told than was.
     pub record TellsOtherwiseAt (line : ℕ) : Type 0 where
       pub number : List ℕ
       pub bytes : List ℕ
       pub numbered : IsNumber number
-      pub was : IsFound log (Some (head_text (head_words setup sends) number ++ bytes))
+      pub was : IsFound log (Some (head_text (head_words start sends) number ++ bytes))
       pub before : ℕ
-      pub otherwise : TellsOtherwise newest_kinds sends (place_of (head_words setup sends) number) bytes (opening setup) before
-      pub line_is : line ≡ line_number (head_words setup sends) number before
+      pub otherwise : TellsOtherwise start.version.logic sends (place_of (head_words start sends) number) bytes (opening start.setup) before
+      pub line_is : line ≡ line_number (head_words start sends) number before
 
     -- Why a start doesn't go on. Reading and writing fail only if a call of the host failed. A log that isn't gone on with is as it was.
     abbrev pub StartFailsBy : DataFault → Type 0

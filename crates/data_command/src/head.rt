@@ -2,12 +2,12 @@
 
 ghost use Rattle.std.specs.Prelude.{◌≡◌, ◌++◌, IfOk, OnOk, flat_map, map};
 ghost use Rattle.log_text.specs.Head.{kind_line, tenant_line};
-ghost use Rattle.command_parts.specs.Setups.{setup_of};
+ghost use Rattle.command_parts.specs.Setups.{starting, version_of};
 ghost use Rattle.data_command.specs.Words.{head_words, tenant_words};
 
 use crate::opening::DataOpening;
 use grain_id::{Kind, Tenant};
-use grain_kinds::{NewestKinds, Version};
+use grain_logic::GrainLogic;
 use log_text::{push_kind, push_number, push_tenant};
 use std::alloc::{AllocError, Global};
 use tenant_gate::Limits;
@@ -38,15 +38,19 @@ fn push_tenants(text: &mut Vec<u8>, tenants: &[(Tenant, Limits)]) -> Result<(), 
 }
 
 /// The lines that a log's head has of the silo: its kinds, deliveries, ages and tenants.
-pub(crate) fn head_words(alloc: Global, opening: &DataOpening) -> Result<Vec<u8>, AllocError>
+pub(crate) fn head_words<L: GrainLogic>(
+    alloc: Global,
+    opening: &DataOpening<L>,
+) -> Result<Vec<u8>, AllocError>
     ensures { IfOk result (λ words. words.items
-        ≡ head_words (setup_of opening.now.tenants opening.now.age opening.now.ages) opening.now.sends) }
+        ≡ head_words (starting (version_of L.logic opening.now.start.kinds) opening.now.start.tenants opening.now.start.age
+        opening.now.start.ages) opening.now.sends) }
 {
     let mut text = Vec::new(alloc);
-    push_number(&mut text, b"kinds", u64::from(NewestKinds::number()))?;
+    push_number(&mut text, b"kinds", u64::from(opening.start.kinds))?;
     push_number(&mut text, b"sends", opening.sends)?;
-    push_number(&mut text, b"age", opening.age.millis())?;
-    push_ages(&mut text, opening.ages.list())?;
-    push_tenants(&mut text, opening.tenants.list())?;
+    push_number(&mut text, b"age", opening.start.age.millis())?;
+    push_ages(&mut text, opening.start.ages.list())?;
+    push_tenants(&mut text, opening.start.tenants.list())?;
     Ok(text)
 }

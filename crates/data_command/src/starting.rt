@@ -6,13 +6,14 @@ ghost use Rattle.log_text.specs.Head.{head_text};
 ghost use Rattle.log_text.specs.Lines.{whole_lines};
 ghost use Rattle.log_text.specs.Sums.{spelled};
 ghost use Rattle.log_host.specs.Files.{Begins, Finds, MayBegin};
+ghost use Rattle.command_parts.specs.Setups.{started, version_of};
 ghost use Rattle.data_command.specs.Data.{DataLasts, LogView, StartFailsBy, log_claims, log_view, place_of, since};
 ghost use Rattle.data_command.specs.Words.{head_words};
 ghost use Rattle.data_command.specs.inside.Starts.{IsStarted, again_fault, opening_cause};
 
 use crate::fault::DataFault;
 use command_parts::{Cause, DataFiles};
-use grain_kinds::NewestKinds;
+use grain_logic::GrainLogic;
 use grain_storage::MemoryStorage;
 use line_answer::AnsweringSilo;
 use log_answer::{AgainFault, answer_again};
@@ -21,11 +22,12 @@ use log_text::{cut_head, is_log, push_head, spell};
 use silo_words::Data;
 use std::alloc::Global;
 
-/// What a log is begun or gone on with: the words of its head, the number of a new one, how many deliveries are behind a line, and
-/// the folder.
+/// What a log is begun or gone on with: the words of its head, the number of its silo's logic there, the number of a new one, how many
+/// deliveries are behind a line, and the folder.
 #[derive(Drop)]
 pub(crate) struct LogTask<'a> {
     pub(crate) words: Vec<u8>,
+    pub(crate) kinds: u8,
     pub(crate) number: u64,
     pub(crate) sends: u64,
     pub(crate) folder: Data<'a>,
@@ -93,25 +95,28 @@ fn again_fault(head: &[u8], fault: AgainFault) -> DataFault
 }
 
 /// Answers the lines of a log again, and cuts off what stands behind its last batch.
-fn resume_log<F: DataFiles>(
+fn resume_log<F: DataFiles, L: GrainLogic>(
     alloc: Global,
     files: &mut F,
-    silo: &mut AnsweringSilo<MemoryStorage, NewestKinds>,
+    silo: &mut AnsweringSilo<MemoryStorage, L>,
     task: &LogTask<'_>,
     bytes: &[u8],
 ) -> Result<LogPlace, DataFault>
     requires ready { silo.old.stopped ≡ false }
     requires opened { silo.old.history.whole ≡ opening silo.old.history.setup }
-    requires words { task.now.words.items ≡ head_words silo.old.history.setup task.now.sends }
+    requires words { task.now.words.items ≡ head_words
+        (started (version_of L.logic task.now.kinds) silo.old.history.setup) task.now.sends }
     ensures started { (old : LogView) → Finds old.acts old.begun (F.acts files.old) (F.begun files.old) (Some bytes.now)
-        → IfOk result (λ place. IsStarted silo.old.history.setup task.now.sends
+        → IfOk result (λ place. IsStarted (started (version_of L.logic task.now.kinds) silo.old.history.setup) task.now.sends
         (since old (log_view F.begun F.acts F.failed files.new)) place silo.new.history) }
     ensures ready { OnOk result (silo.new.stopped ≡ false) }
     ensures fault { (old : LogView) → Finds old.acts old.begun (F.acts files.old) (F.begun files.old) (Some bytes.now)
-        → IfErr result (λ why. StartFailsBy silo.old.history.setup task.now.sends
+        → IfErr result (λ why. StartFailsBy (started (version_of L.logic task.now.kinds) silo.old.history.setup) task.now.sends
         (since old (log_view F.begun F.acts F.failed files.new)) why) }
     ensures lasts { (old : LogView) → Finds old.acts old.begun (F.acts files.old) (F.begun files.old) (Some bytes.now)
-        → OnErr result (DataLasts silo.old.history.setup task.now.sends (since old (log_view F.begun F.acts F.failed files.new))) }
+        → OnErr result (DataLasts
+        (started (version_of L.logic task.now.kinds) silo.old.history.setup) task.now.sends
+        (since old (log_view F.begun F.acts F.failed files.new))) }
 {
     let Some((number, behind)) = cut_head(task.words.as_slice(), bytes) else {
         if is_log(bytes) {
@@ -134,21 +139,22 @@ fn resume_log<F: DataFiles>(
 }
 
 /// Opens the folder, and begins its log if it has none, or else answers its lines again.
-pub(crate) fn start_log<F: DataFiles>(
+pub(crate) fn start_log<F: DataFiles, L: GrainLogic>(
     alloc: Global,
     files: &mut F,
-    silo: &mut AnsweringSilo<MemoryStorage, NewestKinds>,
+    silo: &mut AnsweringSilo<MemoryStorage, L>,
     task: &LogTask<'_>,
 ) -> Result<LogPlace, DataFault>
     requires ready { silo.old.stopped ≡ false }
     requires opened { silo.old.history.whole ≡ opening silo.old.history.setup }
-    requires words { task.now.words.items ≡ head_words silo.old.history.setup task.now.sends }
-    ensures started { IfOk result (λ place. IsStarted silo.old.history.setup task.now.sends
+    requires words { task.now.words.items ≡ head_words
+        (started (version_of L.logic task.now.kinds) silo.old.history.setup) task.now.sends }
+    ensures started { IfOk result (λ place. IsStarted (started (version_of L.logic task.now.kinds) silo.old.history.setup) task.now.sends
         (log_claims F.begun F.acts F.failed files.old files.new) place silo.new.history) }
     ensures ready { OnOk result (silo.new.stopped ≡ false) }
-    ensures fault { IfErr result (λ why. StartFailsBy silo.old.history.setup task.now.sends
+    ensures fault { IfErr result (λ why. StartFailsBy (started (version_of L.logic task.now.kinds) silo.old.history.setup) task.now.sends
         (log_claims F.begun F.acts F.failed files.old files.new) why) }
-    ensures lasts { OnErr result (DataLasts silo.old.history.setup task.now.sends
+    ensures lasts { OnErr result (DataLasts (started (version_of L.logic task.now.kinds) silo.old.history.setup) task.now.sends
         (log_claims F.begun F.acts F.failed files.old files.new)) }
 {
     let found = match files.open(alloc, task.folder.path) {

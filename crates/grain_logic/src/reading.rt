@@ -21,7 +21,7 @@ pub(crate) fn asked_in<'a>(
     ensures same { IfOk result (λ found. asks found.0.now (node_value found.1) ≡ message.now) }
     ensures fits { IfOk result (λ found. FitsMessage (asks found.0.now (node_value found.1))) }
 {
-    formed_call_in(bump, message.bytes())
+    formed_call_in(bump, message)
 }
 
 /// The method, the name and the number of a message, if its argument is `{name: number}`.
@@ -30,7 +30,7 @@ pub(crate) fn number_asked(message: &Message) -> Option<(&str, &str, i64)>
     ensures { IfSome result
         (λ found. message.now ≡ asks found.0.now (tree.map (field found.1.now (integer found.2) no_fields))) }
 {
-    turn_arena::number_asked(message.bytes())
+    turn_arena::number_asked(message)
 }
 
 /// The value of a state, whose texts are lent from its bytes.
@@ -39,5 +39,5 @@ pub(crate) fn state_in<'a>(bump: &'a Bump, state: &'a StateBytes) -> Result<Node
     ensures same { IfOk result (λ node. node_value node ≡ state.now) }
     ensures fits { IfOk result (λ node. FitsState (node_value node)) }
 {
-    formed_in(bump, state.bytes())
+    formed_in(bump, state)
 }

@@ -1,20 +1,20 @@
 -- After a step there is something new to do at the step's own grains alone.
-use Rattle.silo_model.proofs.Common.{◌||◌, ◌∙◌, ◌∷◌, ◌≡◌, Activate, Begin, Bool, Change, Deliver, Effect, Entries, Entry, Grain, List, Load}
-use Rattle.silo_model.proofs.Common.{Logic, None, Option, Some, Step, Whole, ap, changed_at, delivery_of, eq_by_cmp, false, grain_cmp}
-use Rattle.silo_model.proofs.Common.{grain_cmp_exact, grain_cmp_total, grain_eq, grain_eq_decides, is_among, is_some, limits_of}
-use Rattle.silo_model.proofs.Common.{list_any-append, not-true, opening, or_parts, owner_of, refl, sender_by, spread, sym, true, true≢false}
+use Rattle.silo_model.proofs.Common.{◌||◌, ◌∙◌, ◌∷◌, ◌≡◌, Account, Activate, Begin, Bool, Change, Deliver, Effect, Entries, Entry, Grain, List, Load}
+use Rattle.silo_model.proofs.Common.{Logic, None, Option, Some, Step, Whole, ap, changed_at, delivery_of, eq_by_cmp, false, fresh_account, grain_cmp}
+use Rattle.silo_model.proofs.Common.{grain_cmp_exact, grain_cmp_total, grain_eq, grain_eq_decides, is_among, is_some, limits_of, Limits}
+use Rattle.silo_model.proofs.Common.{list_any-append, not-true, opening, option_map, or_parts, owner_of, refl, sender_by, spread, sym, true, true≢false}
 use Rattle.silo_model.proofs.Common.{whole_step, ℕ}
 use Rattle.std.specs.Prelude.{option_to_list}
 use Rattle.std.specs.FinMap as map
 use Rattle.grain_id.proofs.Keys.{grains}
 use Rattle.finite_maps.proofs.Entries.{ties_turned}
-use Rattle.silo_model.proofs.Opening.{get-fresh_accounts}
+use Rattle.silo_model.proofs.Opening.{accounts_new, get-fresh_accounts, none_at}
 use Rattle.silo_model.proofs.Changes.{get-change_other}
 use Rattle.silo_model.proofs.Tests.{on_found, on_test}
 use Rattle.silo_model.proofs.SharedSteps.{shared_leaves}
 use Rattle.silo_model.proofs.Isolation.{did, place_in, shared_by}
 use Rattle.silo_model.specs.Todo.{work_on}
-use Rattle.silo_model.proofs.OwnSends.{delivers, none_there, sends_stay}
+use Rattle.silo_model.proofs.OwnSends.{delivers, sends_stay}
 use Rattle.silo_model.proofs.WorkAtGrains.{nothing_at_entry, nothing_to_deliver}
 use Rattle.lane_model.specs.Candidates.{Covers, CoversBegin, CoversGrow, NothingToDo, grain_by_owner, grain_changed_by}
 
@@ -64,11 +64,17 @@ covers_grow logic w after s candidates step covers = record {
 
 -- ---- where a silo opens
 
+-- nothing was sent from a fresh account
+none_sent : (g : Grain) (o : Option Account) (limits : Option Limits) → o ≡ option_map fresh_account limits → is_some (delivery_of g o) ≡ true → false ≡ true
+none_sent g o None is h = ap (λ x. is_some (delivery_of g x)) (sym is) ∙ h
+none_sent g o (Some l) is h = ap (λ x. is_some (delivery_of g x)) (sym is) ∙ h
+
 pub covers_begin : CoversBegin
-unfolding opening
-covers_begin logic setup = record {
-  entries = λ g h. ap (λ o. is_some (work_on logic g o)) (sym (map.get-empty grain_cmp g)) ∙ h;
-  senders = λ g h. none_there g (map.get (opening setup).accounts g.tenant) (limits_of setup.tenants g.tenant) (get-fresh_accounts setup.tenants g.tenant) h;
+covers_begin logic setup new = record {
+  entries = λ g h. ap (λ o. is_some (work_on logic g o)) (sym (none_at setup new g)) ∙ h;
+  senders = λ g h.
+      none_sent g (map.get (opening setup).accounts g.tenant) (limits_of setup.tenants g.tenant)
+      (ap (λ accounts. map.get accounts g.tenant) (accounts_new setup new) ∙ get-fresh_accounts setup.tenants g.tenant) h;
 }
 
 -- ---- a candidate at which nothing is to do is left out

@@ -7,7 +7,7 @@ use Rattle.silo_event.specs.declared.step.Step.{Step}
 use Rattle.grain_logic.specs.Logic.{Logic}
 use Rattle.silo_model.specs.Step.{grain_of}
 use Rattle.silo_model.specs.Whole.{Whole, whole_step}
-use Rattle.silo_model.specs.Opening.{Setup, opening}
+use Rattle.silo_model.specs.Opening.{Setup, nothing_kept, opening}
 use Rattle.silo_model.specs.Todo.{IsTodo, work_on, delivery_of, is_among, sender_by}
 
 -- grains at which something may be to do: with their entries, and with what they sent
@@ -46,6 +46,7 @@ CoversGrow =
     (logic : Logic) (w after : Whole) (s : Step) (candidates : Candidates) → whole_step logic w s ≡ Some after → Covers logic w candidates
     → Covers logic after (candidates_after w s candidates)
 
--- When a silo opens, none cover it.
+-- When a silo opens of which nothing was kept, none cover it.
 abbrev pub CoversBegin : Type 0
-CoversBegin = (logic : Logic) (setup : Setup) → Covers logic (opening setup) (record { entries = []; senders = [] })
+CoversBegin = (logic : Logic) (setup : Setup) → setup.kept ≡ nothing_kept
+    → Covers logic (opening setup) (record { entries = []; senders = [] })

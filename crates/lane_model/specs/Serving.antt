@@ -16,7 +16,7 @@ use Rattle.grain_logic.specs.Logic.{Logic}
 use Rattle.grain_logic.specs.Laws.{ReadersAskNothing}
 use Rattle.silo_model.specs.Calls.{told}
 use Rattle.silo_model.specs.Whole.{Whole}
-use Rattle.silo_model.specs.Opening.{Setup}
+use Rattle.silo_model.specs.Opening.{Setup, nothing_kept}
 use Rattle.silo_model.specs.Journal.{LeadsTo}
 use Rattle.silo_model.specs.FirstCall.{add_call, first_call}
 use Rattle.silo_model.specs.Pending.{is_of_client, AllQuiet}
@@ -64,12 +64,12 @@ LanesAnswered =
 abbrev pub lane_of_one_call : Client → ℕ → Grain → ℤ → Lane
 lane_of_one_call caller id grain n = record { from = Some caller; steps = Call caller id grain (add_call n) ∷ [] }
 
--- If a client that is known, and may have an activation, adds to a counter of its tenant of which no row is stored,
--- its lane is served by the first call's five steps, and answered the number.
+-- Where nothing was kept: if a client that is known, and may have an activation, adds to a counter of its tenant of which no row
+-- is stored, its lane is served by the first call's five steps, and answered the number.
 abbrev pub FirstCallServed : Type 0
 FirstCallServed = (setup : Setup) (limits : Limits) (caller : Client) (id : ℕ) (grain : Grain) (n : ℤ)
-    → limits_of setup.tenants caller.tenant ≡ Some limits → 0 < limits.activations → grain.tenant ≡ caller.tenant
-    → grain.kind ≡ codes "counter" → map.get setup.rows grain ≡ None → fits_64 n ≡ true
+    → setup.kept ≡ nothing_kept → limits_of setup.tenants caller.tenant ≡ Some limits → 0 < limits.activations
+    → grain.tenant ≡ caller.tenant → grain.kind ≡ codes "counter" → map.get setup.rows grain ≡ None → fits_64 n ≡ true
     → (w : Whole)
     × AreServed counters setup (lane_of_one_call caller id grain n ∷ []) (first_call caller id grain n) w 0 0
     (told (party.Client caller id) (Ok (integer n)) ∷ [])

@@ -58,7 +58,7 @@ pub fn nothing_to_do()
     ensures { NothingToDo }
 {}
 
-/// When a silo opens, no candidates cover it.
+/// When a silo opens of which nothing was kept, no candidates cover it.
 #[tactic(auto, using(crate::proofs::Candidates::covers_begin))]
 pub fn covers_begin()
     ensures { CoversBegin }

@@ -3,15 +3,17 @@ use Rattle.std.proofs.Common.{◌≡◌, ℕ, Bool, true, false, List, [], ◌�
 use Rattle.std.specs.Prelude.{map as map_list, drop, if◌then◌else◌}
 use Rattle.std.proofs.lemmas.List.{append-nil}
 use Rattle.std.specs.FinMap as map
-use Rattle.std.proofs.lemmas.Option.{none-some}
-use Rattle.grain_id.specs.Names.{grain_cmp}
+use Rattle.std.specs.Ordering.{nat_cmp}
 use Rattle.silo_event.specs.Asker.{asking_of}
 use Rattle.silo_event.specs.declared.step.Step.{Step}
 use Rattle.grain_logic.specs.Logic.{Logic}
+use Rattle.silo_model.specs.Collected.{IsIdle}
 use Rattle.silo_model.specs.Journal.{LeadsTo}
+use Rattle.silo_model.specs.Machine.{Request}
 use Rattle.silo_model.specs.Opening.{Setup, opening}
 use Rattle.silo_model.specs.Whole.{Whole, shown_to, whole_step}
 use Rattle.silo_model.specs.Run.{run_by}
+use Rattle.silo_model.proofs.Opening.{woken}
 use Rattle.silo_model.proofs.Runs.{run_by-append}
 use Rattle.silo_core.specs.History.{History}
 use Rattle.line_parser.specs.Meaning.{meaning_of}
@@ -108,7 +110,9 @@ module _ (logic : Logic) (n : ℕ) where
 
 pub opening_idle : (setup : Setup) → AllIdle (opening setup).entries
 unfolding opening
-opening_idle setup g e found = absurd (none-some e (sym (map.get-empty grain_cmp g) ∙ found))
+opening_idle setup g e found =
+    let k = woken setup.kept.grains g e found in
+    subst IsIdle k.2 (record { state = k.0.state; version = k.0.version; phase = refl; nothing_waits = refl; none_open = map.len-empty nat_cmp Request })
 
 module _ (logic : Logic) (n : ℕ) (old new : History) (s : Step) (done : Bool) (leads : LeadsTo logic old.setup old.journal old.whole) (idle : AllIdle old.whole.entries)
     (asked : is_asked s ≡ true) (answers : AnswersAsked logic n old s done new) where

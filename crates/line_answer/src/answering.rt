@@ -3,7 +3,7 @@
 ghost use Rattle.std.specs.Prelude.{◌≡◌, [], false, true, IfOk, OnErr, OnOk};
 ghost use Rattle.silo_event.specs.Asker.{asking_of};
 ghost use Rattle.silo_model.specs.Journal.{LeadsTo};
-ghost use Rattle.silo_model.specs.Opening.{opening};
+ghost use Rattle.silo_model.specs.Opening.{new_setup, opening};
 ghost use Rattle.answer_model.specs.Answering.{is_asked};
 ghost use Rattle.answer_model.specs.Idle.{AllIdle, TellsAsker};
 ghost use Rattle.line_answer.specs.Trying.{AnswersAsked};
@@ -50,12 +50,7 @@ impl<S: GrainStorage + Drop, L: GrainLogic + Drop> AnsweringSilo<S, L> {
     ///
     /// Out of memory.
     pub fn new(alloc: Global, setup: Setup<S, L>) -> Result<AnsweringSilo<S, L>, AllocError>
-        ensures setup { IfOk result (λ a. a.history.setup ≡ record {
-          tenants = setup.tenants;
-          age = setup.age;
-          ages = setup.ages;
-          rows = S.rows setup.storage;
-        }) }
+        ensures setup { IfOk result (λ a. a.history.setup ≡ new_setup setup.tenants setup.age setup.ages (S.rows setup.storage)) }
         ensures opening { IfOk result (λ a. (a.history.whole ≡ opening a.history.setup) × (a.history.journal ≡ [])) }
         ensures failures { IfOk result (λ a. a.history.failures
             ≡ record { at_opening = S.failed setup.storage; now = S.failed setup.storage }) }
@@ -75,12 +70,7 @@ impl<S: GrainStorage + Drop, L: GrainLogic + Drop> AnsweringSilo<S, L> {
         setup: Setup<S, L>,
         seed: HashSeed,
     ) -> Result<AnsweringSilo<S, L>, AllocError>
-        ensures setup { IfOk result (λ a. a.history.setup ≡ record {
-          tenants = setup.tenants;
-          age = setup.age;
-          ages = setup.ages;
-          rows = S.rows setup.storage;
-        }) }
+        ensures setup { IfOk result (λ a. a.history.setup ≡ new_setup setup.tenants setup.age setup.ages (S.rows setup.storage)) }
         ensures opening { IfOk result (λ a. (a.history.whole ≡ opening a.history.setup) × (a.history.journal ≡ [])) }
         ensures failures { IfOk result (λ a. a.history.failures
             ≡ record { at_opening = S.failed setup.storage; now = S.failed setup.storage }) }

@@ -21,8 +21,7 @@ use Rattle.std.specs.FinMap.{entries}
 use Rattle.journal_text.specs.Text.{journal_text}
 use Rattle.line_protocol.proofs.LinesOfBytes.{left_of-fresh}
 use Rattle.line_protocol.specs.Lines.{lines_of}
-use Rattle.grain_kinds.specs.Kinds.{newest_kinds}
-use Rattle.command_parts.specs.Setups.{setup_of}
+use Rattle.command_parts.specs.Setups.{Start, setup_of}
 use Rattle.grain_logic.specs.Logic.{Logic}
 use Rattle.line_parser.specs.Meaning.{meaning_of}
 use Rattle.line_protocol.specs.declared.fault.LineFault.TheVariants as line
@@ -67,46 +66,46 @@ module _ (logic : Logic) (n : ℕ) (input : List ℕ) (old new : History) (befor
   stops_kept line.Memory reading left writing h = (h.0, before_kept h.0 h.1, h.2)
   stops_kept line.Write reading left writing h = (h.0, h.1, h.2, on_kept h.2.rest h.0 h.1 h.3, h.4)
 
-module _ (sends : ℕ) (fresh : Reading) (from left : Option (List ℕ)) (old new : History) (before : Option (List ℕ)) (none : IsFresh fresh) where
+module _ (logic : Logic) (sends : ℕ) (fresh : Reading) (from left : Option (List ℕ)) (old new : History) (before : Option (List ℕ)) (none : IsFresh fresh) where
   -- of an input of which nothing is read ahead
-  pub all_read : (count : ℕ) (after : Option (List ℕ)) → IfSome (left_of fresh from) (λ input. AnswersAll newest_kinds sends input count old new left before after)
-      → IfSome from (λ input. (count : ℕ) × AnswersAll newest_kinds sends input count old new left before after)
+  pub all_read : (count : ℕ) (after : Option (List ℕ)) → IfSome (left_of fresh from) (λ input. AnswersAll logic sends input count old new left before after)
+      → IfSome from (λ input. (count : ℕ) × AnswersAll logic sends input count old new left before after)
   all_read count after h =
-      go from (subst (λ (o : Option (List ℕ)). IfSome o (λ input. AnswersAll newest_kinds sends input count old new left before after)) (left_of-fresh fresh from none) h)
+      go from (subst (λ (o : Option (List ℕ)). IfSome o (λ input. AnswersAll logic sends input count old new left before after)) (left_of-fresh fresh from none) h)
     where
-      go : (o : Option (List ℕ)) → IfSome o (λ input. AnswersAll newest_kinds sends input count old new left before after) → IfSome o (λ input. (count : ℕ) × AnswersAll newest_kinds sends input count old new left before after)
+      go : (o : Option (List ℕ)) → IfSome o (λ input. AnswersAll logic sends input count old new left before after) → IfSome o (λ input. (count : ℕ) × AnswersAll logic sends input count old new left before after)
       go None all = tt
       go (Some input) all = (count, all)
 
   pub stops_out : (why : LineFault) (reading : Reading) (writing : WriterCalls) (during after : Option (List ℕ)) → Keeps during after
-      → IfSome (left_of fresh from) (λ input. StopsBy newest_kinds sends input reading left writing old new before during why)
-      → IfSome from (λ input. StopsBy newest_kinds sends input reading left writing old new before after why)
+      → IfSome (left_of fresh from) (λ input. StopsBy logic sends input reading left writing old new before during why)
+      → IfSome from (λ input. StopsBy logic sends input reading left writing old new before after why)
   stops_out why reading writing during after kept h =
-      go from (subst (λ (o : Option (List ℕ)). IfSome o (λ input. StopsBy newest_kinds sends input reading left writing old new before during why)) (left_of-fresh fresh from none) h)
+      go from (subst (λ (o : Option (List ℕ)). IfSome o (λ input. StopsBy logic sends input reading left writing old new before during why)) (left_of-fresh fresh from none) h)
     where
-      go : (o : Option (List ℕ)) → IfSome o (λ input. StopsBy newest_kinds sends input reading left writing old new before during why) → IfSome o (λ input. StopsBy newest_kinds sends input reading left writing old new before after why)
+      go : (o : Option (List ℕ)) → IfSome o (λ input. StopsBy logic sends input reading left writing old new before during why) → IfSome o (λ input. StopsBy logic sends input reading left writing old new before after why)
       go None stops = tt
-      go (Some input) stops = stops_kept newest_kinds sends input old new before during after kept why reading left writing stops
+      go (Some input) stops = stops_kept logic sends input old new before during after kept why reading left writing stops
 
 -- ---- which silo the lines led to
 
-module _ (setup : Setup) (sends : ℕ) where
-  all_first : (input : List ℕ) (count : ℕ) (silo : History) (left before after : Option (List ℕ)) → AnswersAll newest_kinds sends input count (opened setup) silo left before after → AnswersFirst setup sends input silo
+module _ (start : Start) (sends : ℕ) where
+  all_first : (input : List ℕ) (count : ℕ) (silo : History) (left before after : Option (List ℕ)) → AnswersAll start.version.logic sends input count (opened start.setup) silo left before after → AnswersFirst start sends input silo
   all_first input count silo left before after h = record { done = lines_of input; rest = []; parts = sym (append-nil (lines_of input)); text = h.text; answers = h.answers }
 
-  before_first : (input : List ℕ) (silo : History) (before after : Option (List ℕ)) → AnswersBefore newest_kinds sends (lines_of input) (opened setup) silo before after → AnswersFirst setup sends input silo
+  before_first : (input : List ℕ) (silo : History) (before after : Option (List ℕ)) → AnswersBefore start.version.logic sends (lines_of input) (opened start.setup) silo before after → AnswersFirst start sends input silo
   before_first input silo before after h = record { done = h.done; rest = h.rest; parts = h.parts; text = h.text; answers = h.answers }
 
   -- one line more
-  one_more : (mid silo : History) (done : List (List ℕ)) (l text last : List ℕ) → AnswersLines newest_kinds sends (opened setup) done mid text → AnswersLine newest_kinds sends mid (meaning_of l) silo last
-      → AnswersLines newest_kinds sends (opened setup) (done ++ l ∷ []) silo (text ++ last)
+  one_more : (mid silo : History) (done : List (List ℕ)) (l text last : List ℕ) → AnswersLines start.version.logic sends (opened start.setup) done mid text → AnswersLine start.version.logic sends mid (meaning_of l) silo last
+      → AnswersLines start.version.logic sends (opened start.setup) (done ++ l ∷ []) silo (text ++ last)
   one_more mid silo done l text last p answers =
-      let heard : Hears newest_kinds sends (opened setup) done mid text = record { heard = p.heard; said = p.said; tries = p.tries; text_is = p.text_is; idle = p.idle } in
-      hears_own newest_kinds sends (opened setup) silo (done ++ l ∷ []) (text ++ last) refl (hears_more newest_kinds sends (opened setup) mid silo done l text last heard answers)
+      let heard : Hears start.version.logic sends (opened start.setup) done mid text = record { heard = p.heard; said = p.said; tries = p.tries; text_is = p.text_is; idle = p.idle } in
+      hears_own start.version.logic sends (opened start.setup) silo (done ++ l ∷ []) (text ++ last) refl (hears_more start.version.logic sends (opened start.setup) mid silo done l text last heard answers)
 
-  writing_first : (input : List ℕ) (mid silo : History) (before during after : Option (List ℕ)) (p : AnswersBefore newest_kinds sends (lines_of input) (opened setup) mid before during)
-      → WritesOn newest_kinds sends p.rest mid silo during after → AnswersFirst setup sends input silo
-  writing_first input mid silo before during after p (inl h) = subst (λ (s : History). AnswersFirst setup sends input s) (sym h.0) (before_first input mid before during p)
+  writing_first : (input : List ℕ) (mid silo : History) (before during after : Option (List ℕ)) (p : AnswersBefore start.version.logic sends (lines_of input) (opened start.setup) mid before during)
+      → WritesOn start.version.logic sends p.rest mid silo during after → AnswersFirst start sends input silo
+  writing_first input mid silo before during after p (inl h) = subst (λ (s : History). AnswersFirst start sends input s) (sym h.0) (before_first input mid before during p)
   writing_first input mid silo before during after p (inr h) = record {
     done = p.done ++ h.0 ∷ [];
     rest = h.1;
@@ -116,92 +115,92 @@ module _ (setup : Setup) (sends : ℕ) where
   }
 
   stop_first : (why : LineFault) (input : List ℕ) (silo : History) (reading : Reading) (left : Option (List ℕ)) (writing : WriterCalls) (before after : Option (List ℕ)) → why ≢ line.Memory
-      → StopsBy newest_kinds sends input reading left writing (opened setup) silo before after why → AnswersFirst setup sends input silo
+      → StopsBy start.version.logic sends input reading left writing (opened start.setup) silo before after why → AnswersFirst start sends input silo
   stop_first line.Read input silo reading left writing before after other h = before_first input silo before after h.0
   stop_first line.TooMuch input silo reading left writing before after other h = before_first input silo before after h.0
   stop_first line.Write input silo reading left writing before after other h = writing_first input h.0 silo before h.1 after h.2 h.3
   stop_first line.Memory input silo reading left writing before after other h = absurd (other refl)
 
-  pub led_to_end : (from left : Option (List ℕ)) (silo : History) (before after : Option (List ℕ)) → AnswersToEnd setup sends silo from left before after → IfSome from (λ input. AnswersFirst setup sends input silo)
+  pub led_to_end : (from left : Option (List ℕ)) (silo : History) (before after : Option (List ℕ)) → AnswersToEnd start sends silo from left before after → IfSome from (λ input. AnswersFirst start sends input silo)
   led_to_end None left silo before after h = tt
   led_to_end (Some input) left silo before after h = all_first input h.0 silo left before after h.1
 
   pub led_up_to : (why : LineFault) (from left : Option (List ℕ)) (silo : History) (reading : Reading) (writing : WriterCalls) (before after : Option (List ℕ)) → why ≢ line.Memory
-      → AnswersUpTo setup sends why silo from left reading before after writing → IfSome from (λ input. AnswersFirst setup sends input silo)
+      → AnswersUpTo start sends why silo from left reading before after writing → IfSome from (λ input. AnswersFirst start sends input silo)
   led_up_to why None left silo reading writing before after other h = tt
   led_up_to why (Some input) left silo reading writing before after other h = stop_first why input silo reading left writing before after other h
 
   -- what is said of the silo that was opened
-  module _ (first silo : History) (is : first ≡ opened setup) (from left before after : Option (List ℕ)) where
-    pub to_end : IfSome from (λ input. (count : ℕ) × AnswersAll newest_kinds sends input count first silo left before after) → AnswersToEnd setup sends silo from left before after
-    to_end h = subst (λ (s : History). IfSome from (λ input. (count : ℕ) × AnswersAll newest_kinds sends input count s silo left before after)) is h
+  module _ (first silo : History) (is : first ≡ opened start.setup) (from left before after : Option (List ℕ)) where
+    pub to_end : IfSome from (λ input. (count : ℕ) × AnswersAll start.version.logic sends input count first silo left before after) → AnswersToEnd start sends silo from left before after
+    to_end h = subst (λ (s : History). IfSome from (λ input. (count : ℕ) × AnswersAll start.version.logic sends input count s silo left before after)) is h
 
-    pub up_to : (why : LineFault) (reading : Reading) (writing : WriterCalls) → IfSome from (λ input. StopsBy newest_kinds sends input reading left writing first silo before after why)
-        → AnswersUpTo setup sends why silo from left reading before after writing
-    up_to why reading writing h = subst (λ (s : History). IfSome from (λ input. StopsBy newest_kinds sends input reading left writing s silo before after why)) is h
+    pub up_to : (why : LineFault) (reading : Reading) (writing : WriterCalls) → IfSome from (λ input. StopsBy start.version.logic sends input reading left writing first silo before after why)
+        → AnswersUpTo start sends why silo from left reading before after writing
+    up_to why reading writing h = subst (λ (s : History). IfSome from (λ input. StopsBy start.version.logic sends input reading left writing s silo before after why)) is h
 
 -- ---- two writes to one path
 
-module _ {F : Type 0} (may_hold : F → List ℕ → List ℕ → Type 0) (may_fail : F → List ℕ → Type 0) (may_leave : F → List ℕ → List ℕ → F → Type 0) (setup : Setup) (sends : ℕ) where
+module _ {F : Type 0} (may_hold : F → List ℕ → List ℕ → Type 0) (may_fail : F → List ℕ → Type 0) (may_leave : F → List ℕ → List ℕ → F → Type 0) (start : Start) (sends : ℕ) where
   abbrev of : F → F → FileClaims
   of = claims may_hold may_fail may_leave
 
   -- the first
-  pub first_written : (old new : F) (first : History) → first ≡ opened setup → (journal from : Option (List ℕ)) → WritesAtMost (of old new) journal first → WritesJournalsAtMost setup sends (of old new) journal from
+  pub first_written : (old new : F) (first : History) → first ≡ opened start.setup → (journal from : Option (List ℕ)) → WritesAtMost start.version (of old new) journal first → WritesJournalsAtMost start sends (of old new) journal from
   first_written old new first is None from same = same
   first_written old new first is (Some path) from alone =
-      ⊎_elim (λ same. inl same) (λ written. inr (inl (subst (λ (s : History). may_leave old path (journal_text (silo_journal s)) new) is written))) alone
+      ⊎_elim (λ same. inl same) (λ written. inr (inl (subst (λ (s : History). may_leave old path (journal_text (silo_journal start.version s)) new) is written))) alone
 
-  module _ (old mid new : F) (first silo : History) (is : first ≡ opened setup) where
+  module _ (old mid new : F) (first silo : History) (is : first ≡ opened start.setup) where
     -- it is the journal of no step
-    first_has : (journal : Option (List ℕ)) → KeepsJournal (of old mid) journal first → HasFirst setup (of old mid) journal
+    first_has : (journal : Option (List ℕ)) → KeepsJournal start.version (of old mid) journal first → HasFirst start (of old mid) journal
     first_has None a = tt
-    first_has (Some path) a = subst (λ (s : History). may_leave old path (journal_text (silo_journal s)) mid) is a.written
+    first_has (Some path) a = subst (λ (s : History). may_leave old path (journal_text (silo_journal start.version s)) mid) is a.written
 
-    pub second_fails : (journal : Option (List ℕ)) → KeepsJournal (of old mid) journal first → MayFailAt (may_fail mid) journal → MayFailAgain setup (of old new) journal
-    second_fails journal a fails = may_fail_again may_hold may_fail may_leave setup old mid new journal (first_has journal a) fails
+    pub second_fails : (journal : Option (List ℕ)) → KeepsJournal start.version (of old mid) journal first → MayFailAt (may_fail mid) journal → MayFailAgain start (of old new) journal
+    second_fails journal a fails = may_fail_again may_hold may_fail may_leave start old mid new journal (first_has journal a) fails
 
-    written_both : (journal from : Option (List ℕ)) → KeepsJournal (of old mid) journal first → WritesAtMost (of old mid) journal first → WritesAtMost (of mid new) journal silo
-        → IfSome from (λ input. AnswersFirst setup sends input silo) → WritesJournalsAtMost setup sends (of old new) journal from
+    written_both : (journal from : Option (List ℕ)) → KeepsJournal start.version (of old mid) journal first → WritesAtMost start.version (of old mid) journal first → WritesAtMost start.version (of mid new) journal silo
+        → IfSome from (λ input. AnswersFirst start sends input silo) → WritesJournalsAtMost start sends (of old new) journal from
     written_both None from a alone b led = b ∙ alone
     written_both (Some path) from a alone b led =
-        ⊎_elim (λ same. inr (inl (subst (λ (f : F). may_leave old path (empty_journal setup) f) (sym same) (first_has (Some path) a))))
+        ⊎_elim (λ same. inr (inl (subst (λ (f : F). may_leave old path (empty_journal start) f) (sym same) (first_has (Some path) a))))
         (λ written. inr (inr (record { silo = silo; led = led; written = (mid, first_has (Some path) a, written) }))) b
 
     -- the first alone
-    one_written : (journal from : Option (List ℕ)) → KeepsJournal (of old mid) journal first → WritesAtMost (of old mid) journal first → new ≡ mid → WritesJournalsAtMost setup sends (of old new) journal from
+    one_written : (journal from : Option (List ℕ)) → KeepsJournal start.version (of old mid) journal first → WritesAtMost start.version (of old mid) journal first → new ≡ mid → WritesJournalsAtMost start sends (of old new) journal from
     one_written None from a alone same = same ∙ alone
-    one_written (Some path) from a alone same = inr (inl (subst (λ (f : F). may_leave old path (empty_journal setup) f) (sym same) (first_has (Some path) a)))
+    one_written (Some path) from a alone same = inr (inl (subst (λ (f : F). may_leave old path (empty_journal start) f) (sym same) (first_has (Some path) a)))
 
     -- of the silo as it is shown
     module _ (shown : History) (shows : shown ≡ silo) where
-      pub second_kept : (journal : Option (List ℕ)) → KeepsJournal (of old mid) journal first → KeepsJournal (of mid new) journal shown → KeepsSecond setup (of old new) journal silo
+      pub second_kept : (journal : Option (List ℕ)) → KeepsJournal start.version (of old mid) journal first → KeepsJournal start.version (of mid new) journal shown → KeepsSecond start (of old new) journal silo
       second_kept journal a b =
-          both_kept may_hold may_fail may_leave setup old mid new journal silo (first_has journal a) (subst (λ (s : History). KeepsJournal (of mid new) journal s) shows b)
+          both_kept may_hold may_fail may_leave start old mid new journal silo (first_has journal a) (subst (λ (s : History). KeepsJournal start.version (of mid new) journal s) shows b)
 
-      pub both_written : (journal from : Option (List ℕ)) → KeepsJournal (of old mid) journal first → WritesAtMost (of old mid) journal first → WritesAtMost (of mid new) journal shown
-          → IfSome from (λ input. AnswersFirst setup sends input silo) → WritesJournalsAtMost setup sends (of old new) journal from
-      both_written journal from a alone b led = written_both journal from a alone (subst (λ (s : History). WritesAtMost (of mid new) journal s) shows b) led
+      pub both_written : (journal from : Option (List ℕ)) → KeepsJournal start.version (of old mid) journal first → WritesAtMost start.version (of old mid) journal first → WritesAtMost start.version (of mid new) journal shown
+          → IfSome from (λ input. AnswersFirst start sends input silo) → WritesJournalsAtMost start sends (of old new) journal from
+      both_written journal from a alone b led = written_both journal from a alone (subst (λ (s : History). WritesAtMost start.version (of mid new) journal s) shows b) led
 
-      pub stopped_files : (journal from left : Option (List ℕ)) (reading : Reading) (before after : Option (List ℕ)) (writing : WriterCalls) (why : LineFault) → KeepsJournal (of old mid) journal first
-          → WritesAtMost (of old mid) journal first → WritesAtMost (of mid new) journal shown → (why ≡ line.Memory → new ≡ mid) → AnswersUpTo setup sends why silo from left reading before after writing
-          → WritesJournalsAtMost setup sends (of old new) journal from
+      pub stopped_files : (journal from left : Option (List ℕ)) (reading : Reading) (before after : Option (List ℕ)) (writing : WriterCalls) (why : LineFault) → KeepsJournal start.version (of old mid) journal first
+          → WritesAtMost start.version (of old mid) journal first → WritesAtMost start.version (of mid new) journal shown → (why ≡ line.Memory → new ≡ mid) → AnswersUpTo start sends why silo from left reading before after writing
+          → WritesJournalsAtMost start sends (of old new) journal from
       stopped_files journal from left reading before after writing line.Read a alone b unwritten h =
-          both_written journal from a alone b (led_up_to setup sends line.Read from left silo reading writing before after (λ e. absurd (cc (e))) h)
+          both_written journal from a alone b (led_up_to start sends line.Read from left silo reading writing before after (λ e. absurd (cc (e))) h)
       stopped_files journal from left reading before after writing line.TooMuch a alone b unwritten h =
-          both_written journal from a alone b (led_up_to setup sends line.TooMuch from left silo reading writing before after (λ e. absurd (cc (e))) h)
+          both_written journal from a alone b (led_up_to start sends line.TooMuch from left silo reading writing before after (λ e. absurd (cc (e))) h)
       stopped_files journal from left reading before after writing line.Write a alone b unwritten h =
-          both_written journal from a alone b (led_up_to setup sends line.Write from left silo reading writing before after (λ e. absurd (cc (e))) h)
+          both_written journal from a alone b (led_up_to start sends line.Write from left silo reading writing before after (λ e. absurd (cc (e))) h)
       stopped_files journal from left reading before after writing line.Memory a alone b unwritten h = one_written journal from a alone (unwritten refl)
 
 -- ---- answering fails
 
-module _ (setup : Setup) (sends : ℕ) (files : FileClaims) (journal from : Option (List ℕ)) where
+module _ (start : Start) (sends : ℕ) (files : FileClaims) (journal from : Option (List ℕ)) where
   -- before the first line
-  pub not_opened : (reading : Reading) (before : Option (List ℕ)) (writing : WriterCalls) → AnsweringFailsBy setup sends files journal cause.Memory from from reading before before writing
+  pub not_opened : (reading : Reading) (before : Option (List ℕ)) (writing : WriterCalls) → AnsweringFailsBy start sends files journal cause.Memory from from reading before before writing
   not_opened reading before writing = inl (Keeps-refl from, Keeps-refl before)
 
-  pub not_begun : (reading : Reading) (before : Option (List ℕ)) (writing : WriterCalls) (why : Cause) → IsKeepingCause files.may_fail journal why → AnsweringFailsBy setup sends files journal why from from reading before before writing
+  pub not_begun : (reading : Reading) (before : Option (List ℕ)) (writing : WriterCalls) (why : Cause) → IsKeepingCause files.may_fail journal why → AnsweringFailsBy start sends files journal why from from reading before before writing
   not_begun reading before writing cause.Read is = absurd is
   not_begun reading before writing cause.Write is = inl (is, (Keeps-refl from, Keeps-refl before))
   not_begun reading before writing cause.Memory is = inl (Keeps-refl from, Keeps-refl before)
@@ -211,12 +210,12 @@ module _ (setup : Setup) (sends : ℕ) (files : FileClaims) (journal from : Opti
   not_begun reading before writing cause.InUse is = absurd is
 
   module _ (left : Option (List ℕ)) (reading : Reading) (before after : Option (List ℕ)) (writing : WriterCalls) (silo : History) (unfailed : silo.failures.now ≡ 0) where
-    lacks_memory : (ended : Option LineFault) → AnswersInput setup sends ended silo from left reading before after writing → AnsweringFailsBy setup sends files journal cause.Memory from left reading before after writing
+    lacks_memory : (ended : Option LineFault) → AnswersInput start sends ended silo from left reading before after writing → AnsweringFailsBy start sends files journal cause.Memory from left reading before after writing
     lacks_memory ended answered = inr (record { ended = ended; silo = silo; answered = answered; unfailed = unfailed })
 
     -- when all lines were answered
-    pub not_kept : (fails : List ℕ → Type 0) (why : Cause) → AnswersToEnd setup sends silo from left before after → IsKeepingCause fails journal why → (MayFailAt fails journal → MayFailAgain setup files journal)
-        → AnsweringFailsBy setup sends files journal why from left reading before after writing
+    pub not_kept : (fails : List ℕ → Type 0) (why : Cause) → AnswersToEnd start sends silo from left before after → IsKeepingCause fails journal why → (MayFailAt fails journal → MayFailAgain start files journal)
+        → AnsweringFailsBy start sends files journal why from left reading before after writing
     not_kept fails cause.Read answered is again = absurd is
     not_kept fails cause.Write answered is again = inr (inr (record { silo = silo; answered = answered; unfailed = unfailed; fails = again is }))
     not_kept fails cause.Memory answered is again = lacks_memory None answered
@@ -226,11 +225,11 @@ module _ (setup : Setup) (sends : ℕ) (files : FileClaims) (journal from : Opti
     not_kept fails cause.InUse answered is again = absurd is
 
     -- in a line
-    ends_with : (by why : Cause) → why ≡ by → AnsweringFailsBy setup sends files journal by from left reading before after writing → AnsweringFailsBy setup sends files journal why from left reading before after writing
-    ends_with by why is h = subst (λ (c : Cause). AnsweringFailsBy setup sends files journal c from left reading before after writing) (sym is) h
+    ends_with : (by why : Cause) → why ≡ by → AnsweringFailsBy start sends files journal by from left reading before after writing → AnsweringFailsBy start sends files journal why from left reading before after writing
+    ends_with by why is h = subst (λ (c : Cause). AnsweringFailsBy start sends files journal c from left reading before after writing) (sym is) h
 
-    pub stopped_by : (kept : Type 0) (fault : LineFault) (why : Cause) → AnswersUpTo setup sends fault silo from left reading before after writing → (kept → KeepsSecond setup files journal silo ⊎ MayFailAgain setup files journal)
-        → EndsBy fault kept why → AnsweringFailsBy setup sends files journal why from left reading before after writing
+    pub stopped_by : (kept : Type 0) (fault : LineFault) (why : Cause) → AnswersUpTo start sends fault silo from left reading before after writing → (kept → KeepsSecond start files journal silo ⊎ MayFailAgain start files journal)
+        → EndsBy fault kept why → AnsweringFailsBy start sends files journal why from left reading before after writing
     stopped_by kept line.Read why answered then ends =
         ⊎_elim (λ memory. ends_with cause.Memory why memory (lacks_memory (Some line.Read) answered))
         (λ (h : (why ≡ cause.Read) × kept). ends_with cause.Read why h.0 (record { silo = silo; answered = answered; unfailed = unfailed; kept = then h.1 })) ends
@@ -244,30 +243,30 @@ module _ (setup : Setup) (sends : ℕ) (files : FileClaims) (journal from : Opti
 
 -- ---- how answering ends
 
-module _ {F : Type 0} (may_hold : F → List ℕ → List ℕ → Type 0) (may_fail : F → List ℕ → Type 0) (may_leave : F → List ℕ → List ℕ → F → Type 0) (setup : Setup) (sends : ℕ)
-    (old mid new : F) (first silo shown : History) (is : first ≡ opened setup) (shows : shown ≡ silo) (journal from left : Option (List ℕ)) where
+module _ {F : Type 0} (may_hold : F → List ℕ → List ℕ → Type 0) (may_fail : F → List ℕ → Type 0) (may_leave : F → List ℕ → List ℕ → F → Type 0) (start : Start) (sends : ℕ)
+    (old mid new : F) (first silo shown : History) (is : first ≡ opened start.setup) (shows : shown ≡ silo) (journal from left : Option (List ℕ)) where
   abbrev both : FileClaims
   both = claims may_hold may_fail may_leave old new
 
   -- all was answered, and the journal was written
-  pub ended_so : {T E : Type 0} (before after : Option (List ℕ)) (result : Result T E) → KeepsJournal (claims may_hold may_fail may_leave old mid) journal first → AnswersToEnd setup sends silo from left before after
-      → silo.failures.now ≡ 0 → OnOk result (KeepsJournal (claims may_hold may_fail may_leave mid new) journal shown) → OnOk result (AnswersLanes setup sends both journal from left before after)
+  pub ended_so : {T E : Type 0} (before after : Option (List ℕ)) (result : Result T E) → KeepsJournal start.version (claims may_hold may_fail may_leave old mid) journal first → AnswersToEnd start sends silo from left before after
+      → silo.failures.now ≡ 0 → OnOk result (KeepsJournal start.version (claims may_hold may_fail may_leave mid new) journal shown) → OnOk result (AnswersLanes start sends both journal from left before after)
   ended_so before after (Ok done) a answered unfailed b =
-      record { silo = silo; answered = answered; unfailed = unfailed; kept = second_kept may_hold may_fail may_leave setup sends old mid new first silo is shown shows journal a b }
+      record { silo = silo; answered = answered; unfailed = unfailed; kept = second_kept may_hold may_fail may_leave start sends old mid new first silo is shown shows journal a b }
   ended_so before after (Err why) a answered unfailed b = tt
 
   module _ (reading : Reading) (before after : Option (List ℕ)) (writing : WriterCalls) where
     -- or it wasn't
-    pub not_kept_so : {T : Type 0} (result : Result T Cause) → KeepsJournal (claims may_hold may_fail may_leave old mid) journal first → AnswersToEnd setup sends silo from left before after → silo.failures.now ≡ 0
-        → IfErr result (λ why. IsKeepingCause (may_fail mid) journal why) → IfErr result (λ why. AnsweringFailsBy setup sends both journal why from left reading before after writing)
+    pub not_kept_so : {T : Type 0} (result : Result T Cause) → KeepsJournal start.version (claims may_hold may_fail may_leave old mid) journal first → AnswersToEnd start sends silo from left before after → silo.failures.now ≡ 0
+        → IfErr result (λ why. IsKeepingCause (may_fail mid) journal why) → IfErr result (λ why. AnsweringFailsBy start sends both journal why from left reading before after writing)
     not_kept_so (Ok done) a answered unfailed b = tt
     not_kept_so (Err why) a answered unfailed b =
-        not_kept setup sends both journal from left reading before after writing silo unfailed (may_fail mid) why answered b (second_fails may_hold may_fail may_leave setup sends old mid new first silo is journal a)
+        not_kept start sends both journal from left reading before after writing silo unfailed (may_fail mid) why answered b (second_fails may_hold may_fail may_leave start sends old mid new first silo is journal a)
 
     -- lines were answered up to a fault
-    pub written_after : (fault : LineFault) (why : Cause) → KeepsJournal (claims may_hold may_fail may_leave old mid) journal first → AnswersUpTo setup sends fault silo from left reading before after writing → silo.failures.now ≡ 0
-        → EndsBy fault (KeepsJournal (claims may_hold may_fail may_leave mid new) journal shown ⊎ MayFailAt (may_fail mid) journal) why → AnsweringFailsBy setup sends both journal why from left reading before after writing
+    pub written_after : (fault : LineFault) (why : Cause) → KeepsJournal start.version (claims may_hold may_fail may_leave old mid) journal first → AnswersUpTo start sends fault silo from left reading before after writing → silo.failures.now ≡ 0
+        → EndsBy fault (KeepsJournal start.version (claims may_hold may_fail may_leave mid new) journal shown ⊎ MayFailAt (may_fail mid) journal) why → AnsweringFailsBy start sends both journal why from left reading before after writing
     written_after fault why a answered unfailed ends =
-        stopped_by setup sends both journal from left reading before after writing silo unfailed (KeepsJournal (claims may_hold may_fail may_leave mid new) journal shown ⊎ MayFailAt (may_fail mid) journal) fault why answered
-        (λ kept. ⊎_elim (λ b. inl (second_kept may_hold may_fail may_leave setup sends old mid new first silo is shown shows journal a b))
-        (λ fails. inr (second_fails may_hold may_fail may_leave setup sends old mid new first silo is journal a fails)) kept) ends
+        stopped_by start sends both journal from left reading before after writing silo unfailed (KeepsJournal start.version (claims may_hold may_fail may_leave mid new) journal shown ⊎ MayFailAt (may_fail mid) journal) fault why answered
+        (λ kept. ⊎_elim (λ b. inl (second_kept may_hold may_fail may_leave start sends old mid new first silo is shown shows journal a b))
+        (λ fails. inr (second_fails may_hold may_fail may_leave start sends old mid new first silo is journal a fails)) kept) ends

@@ -1,60 +1,29 @@
 //! Answering each line of an input before the next is read, and keeping the journal.
 
-ghost use Rattle.std.specs.Prelude.{◌≡◌, ◌≢◌, ◌⊎◌, [], false, ℕ, IfOk, IfErr, IfSome, OnOk, option_map};
+ghost use Rattle.std.specs.Prelude.{◌≡◌, ◌≢◌, ◌⊎◌, [], false, ℕ, IfErr, IfSome, OnOk, option_map};
 ghost use Rattle.std.specs.FinMap.{entries};
-ghost use Rattle.grain_kinds.specs.Kinds.{newest_kinds};
-ghost use Rattle.silo_model.specs.Opening.{opening};
 ghost use Rattle.line_protocol.specs.Reading.{IsFresh};
 ghost use Rattle.line_answer.specs.Runs.{AnswersAll, KeepsSetup, StopsBy};
-ghost use Rattle.command_parts.specs.Setups.{setup_of};
+ghost use Rattle.command_parts.specs.Setups.{starting, version_of};
 ghost use Rattle.command_parts.specs.Files.{claims};
 ghost use Rattle.command_parts.specs.Kept.{KeepsJournal, MayFailAt, WritesAtMost};
 ghost use Rattle.line_commands.specs.Answering.{AnsweringFailsBy, AnswersLanes, EndsBy, WritesJournalsAtMost};
 
-use command_parts::{Cause, WholeFiles, cause_of, keep_journal};
-use grain_id::HashSeed;
-use grain_kinds::NewestKinds;
+use command_parts::{Cause, Start, WholeFiles, cause_of, keep_journal, new_silo};
+use grain_logic::GrainLogic;
 use grain_storage::MemoryStorage;
-use idle_collector::AgeTable;
 use line_answer::{AnsweringSilo, answer_lines};
 use line_protocol::{Input, LineFault, Output};
-use silo_core::{Setup, Silo};
-use std::alloc::{AllocError, Global};
+use silo_core::Silo;
+use std::alloc::Global;
 use std::io::{Read, Write};
 use std::mem;
-use tenant_gate::{Age, TenantTable};
-
-/// A silo of the kinds `counter`, `sheet` and `relay`, whose grains rest and stay, over no rows. Its maps are of the seed.
-fn new_silo(
-    alloc: Global,
-    seed: HashSeed,
-    tenants: TenantTable,
-    age: Age,
-    ages: AgeTable,
-) -> Result<AnsweringSilo<MemoryStorage, NewestKinds>, AllocError>
-    ensures setup { IfOk result (λ s. s.history.setup ≡ setup_of tenants age ages) }
-    ensures opening { IfOk result (λ s. (s.history.whole ≡ opening (setup_of tenants age ages)) × (s.history.journal ≡ [])) }
-    ensures failures { IfOk result (λ s. s.history.failures ≡ record { at_opening = 0; now = 0 }) }
-    ensures ready { IfOk result (λ s. s.stopped ≡ false) }
-{
-    AnsweringSilo::seeded(
-        alloc,
-        Setup {
-            tenants,
-            age,
-            ages,
-            storage: MemoryStorage::seeded(alloc, seed),
-            logic: NewestKinds,
-        },
-        seed,
-    )
-}
 
 /// Answers each line of the input before the next is read, with at most so many deliveries behind it. What was written goes
 /// out, also what was written before a fault.
-fn answer_reader<R: Read, W: Write>(
+fn answer_reader<L: GrainLogic, R: Read, W: Write>(
     alloc: Global,
-    silo: &mut AnsweringSilo<MemoryStorage, NewestKinds>,
+    silo: &mut AnsweringSilo<MemoryStorage, L>,
     sends: u64,
     input: &mut Input<R>,
     output: &mut Output<W>,
@@ -62,10 +31,10 @@ fn answer_reader<R: Read, W: Write>(
     requires ready { silo.old.stopped ≡ false }
     requires fresh { IsFresh input.old.lines }
     ensures answered { OnOk result (IfSome (R.remaining input.old.reader) (λ bytes. (count : ℕ)
-        × AnswersAll newest_kinds sends bytes count silo.old.history silo.new.history (R.remaining input.new.reader)
+        × AnswersAll L.logic sends bytes count silo.old.history silo.new.history (R.remaining input.new.reader)
         (W.contents output.old.writer) (W.contents output.new.writer))) }
     ensures stopped { IfErr result (λ why. IfSome (R.remaining input.old.reader) (λ bytes.
-        StopsBy newest_kinds sends bytes input.new.lines (R.remaining input.new.reader) output.new.calls silo.old.history silo.new.history
+        StopsBy L.logic sends bytes input.new.lines (R.remaining input.new.reader) output.new.calls silo.old.history silo.new.history
         (W.contents output.old.writer) (W.contents output.new.writer) why)) }
     ensures setup { OnOk result (silo.new.history.setup ≡ silo.old.history.setup) }
     ensures kept { IfErr result (λ why. KeepsSetup why silo.old.history silo.new.history) }
@@ -85,25 +54,26 @@ fn answer_reader<R: Read, W: Write>(
 }
 
 /// Keeps the journal of a silo whose lines were answered up to a fault, and gives the cause of this end.
-fn keep_after<F: WholeFiles>(
+fn keep_after<F: WholeFiles, L: GrainLogic>(
     alloc: Global,
     files: &mut F,
     journal: Option<&str>,
-    silo: &Silo<MemoryStorage, NewestKinds>,
+    silo: &Silo<MemoryStorage, L>,
+    kinds: u8,
     why: LineFault,
 ) -> Cause
     requires { why ≢ LineFault.Memory → entries silo.now.setup.rows ≡ [] }
-    ensures ends { EndsBy why (KeepsJournal (claims F.may_hold F.may_fail F.may_leave files.old files.new)
+    ensures ends { EndsBy why (KeepsJournal (version_of L.logic kinds) (claims F.may_hold F.may_fail F.may_leave files.old files.new)
         (option_map (λ path. path.now) journal.entry) silo.now
         ⊎ MayFailAt (F.may_fail files.old) (option_map (λ path. path.now) journal.entry)) result }
-    ensures alone { WritesAtMost (claims F.may_hold F.may_fail F.may_leave files.old files.new)
+    ensures alone { WritesAtMost (version_of L.logic kinds) (claims F.may_hold F.may_fail F.may_leave files.old files.new)
         (option_map (λ path. path.now) journal.entry) silo.now }
     ensures unwritten { why ≡ LineFault.Memory → files.new ≡ files.old }
 {
     if matches!(why, LineFault::Memory) {
         return Cause::Memory;
     }
-    match keep_journal(alloc, files, journal, silo) {
+    match keep_journal(alloc, files, journal, silo, kinds) {
         Err(Cause::Memory) => Cause::Memory,
         _ => cause_of(why),
     }
@@ -118,12 +88,9 @@ fn keep_after<F: WholeFiles>(
 /// `Write` if the first journal wasn't written, and then nothing is read. Those of `answer_lines`, and then the whole journal
 /// was written, or a call at its path failed. `Write` if all was answered and the whole journal wasn't written. `Memory` at
 /// any time, and then the whole journal may not be written.
-pub fn answer_input<F: WholeFiles, R: Read, W: Write>(
+pub fn answer_input<L: GrainLogic + Drop, F: WholeFiles, R: Read, W: Write>(
     alloc: Global,
-    seed: HashSeed,
-    tenants: TenantTable,
-    age: Age,
-    ages: AgeTable,
+    start: Start<L>,
     sends: u64,
     journal: Option<&str>,
     files: &mut F,
@@ -131,38 +98,40 @@ pub fn answer_input<F: WholeFiles, R: Read, W: Write>(
     output: &mut Output<W>,
 ) -> Result<(), Cause>
     requires fresh { IsFresh input.old.lines }
-    ensures answered { OnOk result (AnswersLanes (setup_of tenants age ages) sends
+    ensures answered { OnOk result (AnswersLanes (starting (version_of L.logic start.kinds) start.tenants start.age start.ages) sends
         (claims F.may_hold F.may_fail F.may_leave files.old files.new) (option_map (λ path. path.now) journal.entry)
         (R.remaining input.old.reader) (R.remaining input.new.reader) (W.contents output.old.writer) (W.contents output.new.writer)) }
     ensures unfailed { OnOk result (output.new.calls.failed ≡ output.old.calls.failed) }
-    ensures fault { IfErr result (λ why. AnsweringFailsBy (setup_of tenants age ages) sends
+    ensures fault { IfErr result (λ why. AnsweringFailsBy
+        (starting (version_of L.logic start.kinds) start.tenants start.age start.ages) sends
         (claims F.may_hold F.may_fail F.may_leave files.old files.new) (option_map (λ path. path.now) journal.entry) why
         (R.remaining input.old.reader) (R.remaining input.new.reader) input.new.lines
         (W.contents output.old.writer) (W.contents output.new.writer) output.new.calls) }
 
     // In every outcome.
-    ensures journal { WritesJournalsAtMost (setup_of tenants age ages) sends
+    ensures journal { WritesJournalsAtMost (starting (version_of L.logic start.kinds) start.tenants start.age start.ages) sends
         (claims F.may_hold F.may_fail F.may_leave files.old files.new) (option_map (λ path. path.now) journal.entry)
         (R.remaining input.old.reader) }
 {
-    let Ok(mut silo) = new_silo(alloc, seed, tenants, age, ages) else {
+    let kinds = start.kinds;
+    let Ok(mut silo) = new_silo(alloc, start) else {
         return Err(Cause::Memory);
     };
-    let first = keep_journal(alloc, files, journal, silo.silo());
+    let first = keep_journal(alloc, files, journal, silo.silo(), kinds);
     if let Err(why) = first {
         drop(silo);
         return Err(why);
     }
     match answer_reader(alloc, &mut silo, sends, input, output) {
         Ok(()) => {
-            let kept = keep_journal(alloc, files, journal, silo.silo());
+            let kept = keep_journal(alloc, files, journal, silo.silo(), kinds);
 
             // The process ends soon, and gives all of its memory back at once.
             mem::forget(silo);
             kept
         }
         Err(why) => {
-            let cause = keep_after(alloc, files, journal, silo.silo(), why);
+            let cause = keep_after(alloc, files, journal, silo.silo(), kinds, why);
             mem::forget(silo);
             Err(cause)
         }

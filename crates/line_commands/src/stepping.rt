@@ -3,64 +3,57 @@
 ghost use Rattle.std.specs.Prelude.{◌≡◌, OnOk, IfOk, IfErr};
 ghost use Rattle.silo_model.specs.Opening.{opening};
 ghost use Rattle.line_protocol.specs.Reading.{IsFresh};
-ghost use Rattle.command_parts.specs.Setups.{setup_of};
+ghost use Rattle.command_parts.specs.Setups.{setup_of, starting, version_of};
 ghost use Rattle.line_commands.specs.Steps.{AnswersFrom, StopsFrom};
 
-use grain_id::HashSeed;
-use grain_kinds::NewestKinds;
+use command_parts::Start;
+use grain_logic::GrainLogic;
 use grain_storage::MemoryStorage;
-use idle_collector::AgeTable;
 use line_protocol::{Input, LineFault, Output, run_lines};
 use silo_core::{Setup, Silo};
 use std::alloc::{AllocError, Global};
 use std::io::{Read, Write};
 use std::mem;
-use tenant_gate::{Age, TenantTable};
 
-/// A silo of the kinds `counter`, `sheet` and `relay`, whose grains rest and stay, over no rows. Its maps are of the seed.
-fn new_silo(
+/// A silo over no rows that takes steps.
+fn new_silo<L: GrainLogic + Drop>(
     alloc: Global,
-    seed: HashSeed,
-    tenants: TenantTable,
-    age: Age,
-    ages: AgeTable,
-) -> Result<Silo<MemoryStorage, NewestKinds>, AllocError>
-    ensures setup { IfOk result (λ s. s.setup ≡ setup_of tenants age ages) }
-    ensures opening { IfOk result (λ s. s.whole ≡ opening (setup_of tenants age ages)) }
+    start: Start<L>,
+) -> Result<Silo<MemoryStorage, L>, AllocError>
+    ensures setup { IfOk result (λ s. s.setup ≡ setup_of start.tenants start.age start.ages) }
+    ensures opening { IfOk result (λ s. s.whole ≡ opening (setup_of start.tenants start.age start.ages)) }
 {
+    let seed = start.seed;
     Silo::seeded(
         alloc,
         Setup {
-            tenants,
-            age,
-            ages,
+            tenants: start.tenants,
+            age: start.age,
+            ages: start.ages,
             storage: MemoryStorage::seeded(alloc, seed),
-            logic: NewestKinds,
+            logic: start.logic,
         },
         seed,
     )
 }
 
 /// Takes every step of the input, and writes what it answers.
-fn answer_lines<R: Read, W: Write>(
+fn answer_lines<L: GrainLogic + Drop, R: Read, W: Write>(
     alloc: Global,
-    seed: HashSeed,
-    tenants: TenantTable,
-    age: Age,
-    ages: AgeTable,
+    start: Start<L>,
     input: &mut Input<R>,
     output: &mut Output<W>,
 ) -> Result<(), LineFault>
     requires fresh { IsFresh input.old.lines }
-    ensures answered { OnOk result (AnswersFrom (setup_of tenants age ages)
+    ensures answered { OnOk result (AnswersFrom (starting (version_of L.logic start.kinds) start.tenants start.age start.ages)
         (R.remaining input.old.reader) (R.remaining input.new.reader)
         (W.contents output.old.writer) (W.contents output.new.writer)) }
     ensures unfailed { OnOk result (output.new.calls.failed ≡ output.old.calls.failed) }
-    ensures stopped { IfErr result (λ why. StopsFrom (setup_of tenants age ages) why
+    ensures stopped { IfErr result (λ why. StopsFrom (starting (version_of L.logic start.kinds) start.tenants start.age start.ages) why
         (R.remaining input.old.reader) (R.remaining input.new.reader) input.new.lines
         (W.contents output.old.writer) (W.contents output.new.writer) output.new.calls) }
 {
-    let Ok(mut silo) = new_silo(alloc, seed, tenants, age, ages) else {
+    let Ok(mut silo) = new_silo(alloc, start) else {
         return Err(LineFault::Memory);
     };
     let done = run_lines(alloc, input, output, &mut silo);
@@ -76,25 +69,22 @@ fn answer_lines<R: Read, W: Write>(
 }
 
 /// Takes every step of the input. What was written goes out, also what was written before a fault.
-pub fn answer_steps<R: Read, W: Write>(
+pub fn answer_steps<L: GrainLogic + Drop, R: Read, W: Write>(
     alloc: Global,
-    seed: HashSeed,
-    tenants: TenantTable,
-    age: Age,
-    ages: AgeTable,
+    start: Start<L>,
     input: &mut Input<R>,
     output: &mut Output<W>,
 ) -> Result<(), LineFault>
     requires fresh { IsFresh input.old.lines }
-    ensures answered { OnOk result (AnswersFrom (setup_of tenants age ages)
+    ensures answered { OnOk result (AnswersFrom (starting (version_of L.logic start.kinds) start.tenants start.age start.ages)
         (R.remaining input.old.reader) (R.remaining input.new.reader)
         (W.contents output.old.writer) (W.contents output.new.writer)) }
     ensures unfailed { OnOk result (output.new.calls.failed ≡ output.old.calls.failed) }
-    ensures stopped { IfErr result (λ why. StopsFrom (setup_of tenants age ages) why
+    ensures stopped { IfErr result (λ why. StopsFrom (starting (version_of L.logic start.kinds) start.tenants start.age start.ages) why
         (R.remaining input.old.reader) (R.remaining input.new.reader) input.new.lines
         (W.contents output.old.writer) (W.contents output.new.writer) output.new.calls) }
 {
-    match answer_lines(alloc, seed, tenants, age, ages, input, output) {
+    match answer_lines(alloc, start, input, output) {
         Ok(()) => output.flush(),
         Err(why) => {
             let _ = output.writer.flush();

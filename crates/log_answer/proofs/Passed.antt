@@ -58,11 +58,11 @@ asked_few [] = omega arith
 asked_few (line ∷ lines) =
     either (λ c. cond c (1 + asked_first lines) 0 ≤ length (line ∷ lines)) (tag_of line == 43) (omega (arith, asked_few lines)) (omega arith)
 
-fault_by : (c : Bool) (k found : ℕ) → cond c (Some k) None ≡ Some found → found ≡ k
-fault_by true k found is = sym (same_Some k found is)
-fault_by false k found is = absurd (none-some found is)
+fault_by : (c : Bool) (k found : ℕ) → cond c None (Some k) ≡ Some found → found ≡ k
+fault_by true k found is = absurd (none-some found is)
+fault_by false k found is = sym (same_Some k found is)
 
-pub fault_few : (name bytes : List ℕ) (found : ℕ) → fault_in name bytes ≡ Some found → found ≤ length bytes
+pub fault_few : (name bytes : List ℕ) (found : ℕ) → fault_in own_sums name bytes ≡ Some found → found ≤ length bytes
 fault_few name bytes found is = omega (arith, fault_by _ (asked_first (whole_lines bytes)) found is, asked_few (whole_lines bytes), whole_few bytes)
 
 -- ---- what marks say
@@ -190,7 +190,7 @@ module _ (logic : Logic) (n : ℕ) where
           ∙ left_by (log_text own_sums place.name place.sum p.done) rest bytes p.text_is
 
       pub again_all : (again : Again) → again.place ≡ record { name = place.name; sum = sum; told = told } → again.length ≡ length bytes - length rest → again.lines ≡ lines
-          → fault_in place.name rest ≡ None → AnswersAgain logic n place bytes old now again
+          → fault_in own_sums place.name rest ≡ None → AnswersAgain logic n place bytes old now again
       again_all again at kept counted passes = record {
         batches = p.done;
         read = sym all_read;
@@ -201,14 +201,14 @@ module _ (logic : Logic) (n : ℕ) where
         told = ap (λ (x : LogPlace). x.told) at ∙ p.told_is;
         kept = omega (arith, kept, ap length p.text_is, length-append (log_text own_sums place.name place.sum p.done) rest);
         lines = counted ∙ p.lines_is;
-        passes = ap (fault_in place.name) left_there ∙ passes;
+        passes = ap (fault_in own_sums place.name) left_there ∙ passes;
       }
 
-      pub again_refused : (found before : ℕ) → fault_in place.name rest ≡ Some found → before ≡ (lines + marks) + found → IsRefused logic n place bytes old.whole before
+      pub again_refused : (found before : ℕ) → fault_in own_sums place.name rest ≡ Some found → before ≡ (lines + marks) + found → IsRefused logic n place bytes old.whole before
       again_refused found before is total = record {
         tells = subst (TellSums logic n old.whole place.told) (sym all_read) p.tells;
         found = found;
-        refused = ap (fault_in place.name) left_there ∙ is;
+        refused = ap (fault_in own_sums place.name) left_there ∙ is;
         before_it = omega (arith, total, p.lines_is, p.marks_is, ap length (ap lines_of all_read), ap length all_read);
       }
 

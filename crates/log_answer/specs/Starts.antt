@@ -41,7 +41,7 @@ module _ (logic : Logic) (n : ℕ) where
     pub told : again.place.told ≡ told_sum old.whole place.told batches
     pub kept : again.length ≡ length (log_text own_sums place.name place.sum batches)
     pub lines : again.lines ≡ length (lines_of batches)
-    pub passes : fault_in place.name (left_in own_sums place.name place.sum bytes) ≡ None
+    pub passes : fault_in own_sums place.name (left_in own_sums place.name place.sum bytes) ≡ None
 
   -- The first batch for which something else would be told than its mark says, and how many lines of the log stand before that mark.
   pub record TellsOtherwise (place : LogPlace) (bytes : List ℕ) (w : Whole) (before : ℕ) : Type 0 where
@@ -57,7 +57,7 @@ module _ (logic : Logic) (n : ℕ) where
   pub record IsRefused (place : LogPlace) (bytes : List ℕ) (w : Whole) (before : ℕ) : Type 0 where
     pub tells : TellSums w place.told (recovered own_sums place.name place.sum bytes)
     pub found : ℕ
-    pub refused : fault_in place.name (left_in own_sums place.name place.sum bytes) ≡ Some found
+    pub refused : fault_in own_sums place.name (left_in own_sums place.name place.sum bytes) ≡ Some found
     pub before_it : before ≡ lines_with_marks (recovered own_sums place.name place.sum bytes) + found
 
   -- why it stops

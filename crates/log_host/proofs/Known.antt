@@ -1,14 +1,23 @@
 -- Acts that are known, and are added to.
-use Rattle.std.proofs.Common.{◌≡◌, ◌∙◌, List, [], ◌∷◌, ◌++◌, append_assoc, append-nil, arith, refl, sym, ap, subst, take_all, length, ℕ, Option, Some, Result, Ok, Err, OnErr, inl, inr}
+use Rattle.std.proofs.Common.{◌≡◌, ◌∙◌, List, [], ◌∷◌, ◌++◌, append_assoc, append-nil, arith, refl, sym, ap, subst, take_all, length, ℕ, Option, None, Some, Result, Ok, Err, OnErr, inl, inr}
 use Rattle.std.specs.Prelude.{take, drop}
 use Rattle.std.specs.Io.KnownBytes.{Appends, Keeps}
 use Rattle.std.proofs.KnownBytes.{Appends-kept, Appends-nil}
 use Rattle.std.proofs.lemmas.List.{take-append-drop}
 use Rattle.line_protocol.specs.LineRuns.{WrittenInPart}
-use Rattle.log_host.specs.Acts.{Act, Adds, AddsPart, TellsPart, told}
+use Rattle.log_host.specs.Acts.{Act, Adds, AddsPart, TellsPart, synced, told, wrote}
 
 pub known : (old new : Option (List Act)) (acts more : List Act) → old ≡ Some acts → Adds old new more → new ≡ Some (acts ++ more)
 known old new acts more is adds = subst (λ o. Adds o new more) is adds
+
+-- what three calls add, one after another
+pub added_in_order : (old mid last new : Option (List Act)) (put whole made said : List ℕ) → Adds old mid (wrote put ∷ []) → put ≡ whole → whole ≡ made
+    → Adds mid last (synced ∷ []) → Adds last new (told said ∷ []) → Adds old new (wrote made ∷ synced ∷ told said ∷ [])
+added_in_order None mid last new put whole made said first is also second third = tt
+added_in_order (Some old) mid last new put whole made said first is also second third =
+    known last new ((old ++ wrote put ∷ []) ++ synced ∷ []) (told said ∷ []) (known mid last (old ++ wrote put ∷ []) (synced ∷ []) first second) third
+    ∙ ap Some (append_assoc (old ++ wrote put ∷ []) (synced ∷ []) (told said ∷ []) ∙ append_assoc old (wrote put ∷ []) (synced ∷ told said ∷ []))
+    ∙ ap (λ l. Some (old ++ wrote l ∷ synced ∷ told said ∷ [])) (is ∙ also)
 
 pub known_part : (old new : Option (List Act)) (acts : List Act) (act : List ℕ → Act) (bytes : List ℕ) → old ≡ Some acts → AddsPart old new act bytes → AddsPart (Some acts) new act bytes
 known_part old new acts act bytes is adds = subst (λ o. AddsPart o new act bytes) is adds
@@ -42,11 +51,11 @@ told_part old new before after bytes (inr part) = part_of_part before after part
 
 -- all of it was written, and then what was written went out or not
 pub all_written : (before during after : Option (List ℕ)) (bytes : List ℕ) → Appends before during bytes → Keeps during after → WrittenInPart before after bytes
-all_written before during after bytes wrote kept = record {
+all_written before during after bytes put kept = record {
   front = bytes;
   back = [];
   parts = sym (append-nil bytes);
-  written = Appends-kept before during after bytes wrote kept;
+  written = Appends-kept before during after bytes put kept;
 }
 
 -- all of it was to be told, and a part was written

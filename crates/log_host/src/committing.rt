@@ -1,11 +1,12 @@
 //! A batch that is kept, and then told.
 
-ghost use Rattle.std.specs.Prelude.{◌≡◌, List, [], Some, true, IfOk, OnErr, OnOk};
+ghost use Rattle.std.specs.Prelude.{◌≡◌, List, [], ◌∷◌, ◌++◌, Some, true, IfOk, OnErr, OnOk};
 ghost use Rattle.std.specs.Io.KnownBytes.{Appends};
 ghost use Rattle.line_protocol.specs.LineRuns.{WrittenInPart};
-ghost use Rattle.log_text.specs.Batches.{sum_behind};
+ghost use Rattle.log_text.specs.Lines.{ended};
+ghost use Rattle.log_text.specs.Batches.{mark_behind, sum_behind};
 ghost use Rattle.log_text.specs.Sums.{after, own_sums, spelled};
-ghost use Rattle.log_host.specs.Acts.{Act, Held};
+ghost use Rattle.log_host.specs.Acts.{Act, Adds, Held, synced, told, wrote};
 ghost use Rattle.log_host.specs.Lasting.{IsAsked, LastsFrom, Log, SettlesFrom};
 
 use crate::host::{HostFault, LogHost};
@@ -41,6 +42,7 @@ impl From<HostFault> for CommitFault {
 ///
 /// `Memory` if memory was refused, and then nothing was done; `Host` if a call of the host failed, which the host notes: pass
 /// one that notes none.
+#[tactic(auto, using(crate::proofs::Known::added_in_order))]
 pub fn commit<H: LogHost, W: Write>(
     host: &mut H,
     output: &mut Output<W>,
@@ -49,6 +51,11 @@ pub fn commit<H: LogHost, W: Write>(
     text: &[u8],
 ) -> Result<LogPlace, CommitFault>
     ensures begun { H.begun host.new ≡ H.begun host.old }
+
+    // The batch is written with its mark, then it is on the disk, and then its text is told.
+    ensures order { IfOk result (λ next. Adds (H.acts host.old) (H.acts host.new)
+        (wrote (batch.old.items ++ ended (mark_behind own_sums place.name place.sum batch.old.items (spelled next.told)))
+        ∷ synced ∷ told text.now ∷ [])) }
 
     // At each moment of the call, whatever a crash leaves, what was told is the beginning of what that log answers.
     ensures lasts { (log : Log) (h : Held) (acts : List Act) → H.acts host.old ≡ Some acts

@@ -68,7 +68,7 @@ module _ (name : List ℕ) (sum : ℕ) where
 
   no_mark : (lines others : List (List ℕ)) (line : List ℕ) (c d : Bool) → c ≡ false → d ≡ false
       → cond c (batches_in own_sums name sum (lines ++ drop 1 line ∷ []) others)
-      (cond d (closed name lines line ∷ batches_in own_sums name (sum_of own_sums name sum (closed name lines line)) [] others) []) ≡ []
+      (cond d (closed own_sums name lines line ∷ batches_in own_sums name (sum_of own_sums name sum (closed own_sums name lines line)) [] others) []) ≡ []
   no_mark lines others line true d p q = absurd (true≢false p)
   no_mark lines others line false true p q = absurd (true≢false q)
   no_mark lines others line false false p q = refl
@@ -86,8 +86,8 @@ module _ (name : List ℕ) (sum : ℕ) where
       at_line bytes rest line behind so plain is
       ∙ no_mark so.lines (whole_lines behind) line (tag_of line == 43) (fits own_sums name sum so.lines line) other
       (by_test (fits own_sums name sum so.lines line) (λ fit.
-      let same = same_from_text line (mark_line own_sums name sum (closed name so.lines line)) fit in
-      none (told_in name line) (told_sized name line sum so.lines same) (same ∙ ap (λ a. mark_behind own_sums name sum a (told_in name line)) (sym asked))))
+      let same = same_from_text line (mark_line own_sums name sum (closed own_sums name so.lines line)) fit in
+      none (told_in own_sums name (length (lines_text so.lines)) line) (told_sized own_sums name line sum so.lines same) (same ∙ ap (λ a. mark_behind own_sums name sum a (told_in own_sums name (length (lines_text so.lines)) line)) (sym asked))))
 
   -- the line is their mark
   pub batch_there : (bytes rest line behind told : List ℕ) (next : ℕ) → SoFar bytes rest → HasNoBreak line → rest ≡ line ++ 10 ∷ behind

@@ -4,9 +4,11 @@ pub mod Prefixes
 pub mod Written
 pub mod Stands
 pub mod Passes
+pub mod Ends
 pub mod Spelled
 pub mod CutBytes
 pub mod Marks
 pub mod Batches
 pub mod Read
 pub mod Heads
+pub mod Kept

@@ -12,7 +12,7 @@ module _ (sums : Sums) (name : List ℕ) where
   pub batches_prefix : (sum : ℕ) (pending lines more : List (List ℕ)) → IsPrefixOf (batches_in sums name sum pending lines) (batches_in sums name sum pending (lines ++ more))
   batches_prefix sum pending [] more = none_first (batches_in sums name sum pending more)
   batches_prefix sum pending (line ∷ lines) more =
-      let b = closed name pending line in
+      let b = closed sums name pending line in
       let next = sum_of sums name sum b in
       let on = pending ++ drop 1 line ∷ [] in
       either (λ c. IsPrefixOf

@@ -1,9 +1,9 @@
 -- What is read are batches.
-use Rattle.std.proofs.Common.{◌≡◌, ◌==◌, Bool, true, false, cond, List, [], ◌∷◌, ◌++◌, take, drop, refl, ℕ, zero, suc}
+use Rattle.std.proofs.Common.{◌≡◌, ◌==◌, Bool, true, false, cond, List, [], ◌∷◌, ◌++◌, ◌+◌, take, drop, refl, ℕ, zero, suc}
 use Rattle.log_text.specs.Lines.{ArePlain, HasNoBreak, onto_first, tag_of, whole_lines}
-use Rattle.log_text.specs.Sums.{own_sums}
-use Rattle.log_text.specs.Batches.{AreBatches, mark_head, mark_line, sum_of}
-use Rattle.log_text.specs.Reading.{batches_in, closed, fits, told_in}
+use Rattle.log_text.specs.Sums.{Sums, own_sums}
+use Rattle.log_text.specs.Batches.{AreBatches, lines_text, mark_line, mark_place, sum_of}
+use Rattle.log_text.specs.Reading.{batches_in, closed, fits, recovered, told_in}
 use Rattle.log_text.specs.Laws.{ReadsBatches}
 use Rattle.log_text.proofs.Batches.{plain_push, plain_rest}
 use Rattle.log_text.proofs.Marks.{told_sized}
@@ -32,31 +32,36 @@ take_plain zero bytes is = tt
 take_plain (suc k) [] is = is
 take_plain (suc k) (b ∷ bytes) is = (is.0, take_plain k bytes is.1)
 
-module _ (name : List ℕ) where
-  told_plain : (line : List ℕ) → HasNoBreak line → HasNoBreak (told_in name line)
-  told_plain line is = take_plain 16 (drop (length (mark_head name)) line) (drop_plain (length (mark_head name)) line is)
+module _ (sums : Sums) (name : List ℕ) where
+  told_plain : (count : ℕ) (line : List ℕ) → HasNoBreak line → HasNoBreak (told_in sums name count line)
+  told_plain count line is =
+      let from = length (mark_place sums name count) + 1 in
+      take_plain 16 (drop from line) (drop_plain from line is)
 
-  by_mark : (sum : ℕ) (pending lines : List (List ℕ)) (line : List ℕ) (d : Bool) → fits own_sums name sum pending line ≡ d → ArePlain pending → HasNoBreak line
-      → AreBatches (batches_in own_sums name (sum_of own_sums name sum (closed name pending line)) [] lines)
-      → AreBatches (cond d (closed name pending line ∷ batches_in own_sums name (sum_of own_sums name sum (closed name pending line)) [] lines) [])
+  by_mark : (sum : ℕ) (pending lines : List (List ℕ)) (line : List ℕ) (d : Bool) → fits sums name sum pending line ≡ d → ArePlain pending → HasNoBreak line
+      → AreBatches (batches_in sums name (sum_of sums name sum (closed sums name pending line)) [] lines)
+      → AreBatches (cond d (closed sums name pending line ∷ batches_in sums name (sum_of sums name sum (closed sums name pending line)) [] lines) [])
   by_mark sum pending lines line false fit plain is rest = tt
   by_mark sum pending lines line true fit plain is rest =
-      ((plain, (told_sized name line sum pending (same_from_text line (mark_line own_sums name sum (closed name pending line)) fit), told_plain line is)), rest)
+      ((plain, (told_sized sums name line sum pending (same_from_text line (mark_line sums name sum (closed sums name pending line)) fit), told_plain (length (lines_text pending)) line is)), rest)
 
   by_line : (sum : ℕ) (pending lines : List (List ℕ)) (line : List ℕ) (c : Bool) → ArePlain pending → HasNoBreak line
-      → AreBatches (batches_in own_sums name sum (pending ++ drop 1 line ∷ []) lines)
-      → AreBatches (batches_in own_sums name (sum_of own_sums name sum (closed name pending line)) [] lines)
-      → AreBatches (cond c (batches_in own_sums name sum (pending ++ drop 1 line ∷ []) lines)
-      (cond (fits own_sums name sum pending line) (closed name pending line ∷ batches_in own_sums name (sum_of own_sums name sum (closed name pending line)) [] lines) []))
+      → AreBatches (batches_in sums name sum (pending ++ drop 1 line ∷ []) lines)
+      → AreBatches (batches_in sums name (sum_of sums name sum (closed sums name pending line)) [] lines)
+      → AreBatches (cond c (batches_in sums name sum (pending ++ drop 1 line ∷ []) lines)
+      (cond (fits sums name sum pending line) (closed sums name pending line ∷ batches_in sums name (sum_of sums name sum (closed sums name pending line)) [] lines) []))
   by_line sum pending lines line true plain is on rest = on
-  by_line sum pending lines line false plain is on rest = by_mark sum pending lines line (fits own_sums name sum pending line) refl plain is rest
+  by_line sum pending lines line false plain is on rest = by_mark sum pending lines line (fits sums name sum pending line) refl plain is rest
 
-  batches_are : (sum : ℕ) (pending lines : List (List ℕ)) → ArePlain pending → ArePlain lines → AreBatches (batches_in own_sums name sum pending lines)
+  batches_are : (sum : ℕ) (pending lines : List (List ℕ)) → ArePlain pending → ArePlain lines → AreBatches (batches_in sums name sum pending lines)
   batches_are sum pending [] plain are = tt
   batches_are sum pending (line ∷ lines) plain are =
       by_line sum pending lines line (tag_of line == 43) plain are.0
       (batches_are sum (pending ++ drop 1 line ∷ []) lines (plain_push pending (drop 1 line) plain (plain_rest line are.0)) are.1)
-      (batches_are (sum_of own_sums name sum (closed name pending line)) [] lines tt are.1)
+      (batches_are (sum_of sums name sum (closed sums name pending line)) [] lines tt are.1)
+
+pub read_are : (sums : Sums) (name : List ℕ) (sum : ℕ) (bytes : List ℕ) → AreBatches (recovered sums name sum bytes)
+read_are sums name sum bytes = batches_are sums name sum [] (whole_lines bytes) tt (lines_plain bytes)
 
 pub reads_batches : ReadsBatches
-reads_batches name sum bytes = batches_are name sum [] (whole_lines bytes) tt (lines_plain bytes)
+reads_batches = read_are own_sums

@@ -48,12 +48,12 @@ more_lines pending line lines is =
 
 module _ (sums : Sums) (name : List ℕ) where
   mark_stands : (sum : ℕ) (pending lines : List (List ℕ)) (line : List ℕ) (d : Bool) → fits sums name sum pending line ≡ d
-      → IsPrefixOf (log_text sums name (sum_of sums name sum (closed name pending line)) (batches_in sums name (sum_of sums name sum (closed name pending line)) [] lines)) (all_ended lines)
-      → IsPrefixOf (log_text sums name sum (cond d (closed name pending line ∷ batches_in sums name (sum_of sums name sum (closed name pending line)) [] lines) []))
+      → IsPrefixOf (log_text sums name (sum_of sums name sum (closed sums name pending line)) (batches_in sums name (sum_of sums name sum (closed sums name pending line)) [] lines)) (all_ended lines)
+      → IsPrefixOf (log_text sums name sum (cond d (closed sums name pending line ∷ batches_in sums name (sum_of sums name sum (closed sums name pending line)) [] lines) []))
       (lines_text pending ++ all_ended (line ∷ lines))
   mark_stands sum pending lines line false is p = none_first (lines_text pending ++ all_ended (line ∷ lines))
   mark_stands sum pending lines line true is p =
-      let b = closed name pending line in
+      let b = closed sums name pending line in
       let next = sum_of sums name sum b in
       let rest : List ℕ = log_text sums name next (batches_in sums name next [] lines) in
       let mark = mark_line sums name sum b in (
@@ -66,9 +66,9 @@ module _ (sums : Sums) (name : List ℕ) where
 
   either_stands : (sum : ℕ) (pending lines : List (List ℕ)) (line : List ℕ) (c : Bool) → (tag_of line == 43) ≡ c
       → IsPrefixOf (log_text sums name sum (batches_in sums name sum (pending ++ drop 1 line ∷ []) lines)) (lines_text (pending ++ drop 1 line ∷ []) ++ all_ended lines)
-      → IsPrefixOf (log_text sums name (sum_of sums name sum (closed name pending line)) (batches_in sums name (sum_of sums name sum (closed name pending line)) [] lines)) (all_ended lines)
+      → IsPrefixOf (log_text sums name (sum_of sums name sum (closed sums name pending line)) (batches_in sums name (sum_of sums name sum (closed sums name pending line)) [] lines)) (all_ended lines)
       → IsPrefixOf (log_text sums name sum (cond c (batches_in sums name sum (pending ++ drop 1 line ∷ []) lines)
-      (cond (fits sums name sum pending line) (closed name pending line ∷ batches_in sums name (sum_of sums name sum (closed name pending line)) [] lines) [])))
+      (cond (fits sums name sum pending line) (closed sums name pending line ∷ batches_in sums name (sum_of sums name sum (closed sums name pending line)) [] lines) [])))
       (lines_text pending ++ all_ended (line ∷ lines))
   either_stands sum pending lines line true is p q = (p.0, p.1 ∙ more_lines pending line lines is)
   either_stands sum pending lines line false is p q = mark_stands sum pending lines line (fits sums name sum pending line) refl q
@@ -78,7 +78,7 @@ module _ (sums : Sums) (name : List ℕ) where
   batches_stand sum pending (line ∷ lines) =
       either_stands sum pending lines line (tag_of line == 43) refl
       (batches_stand sum (pending ++ drop 1 line ∷ []) lines)
-      (batches_stand (sum_of sums name sum (closed name pending line)) [] lines)
+      (batches_stand (sum_of sums name sum (closed sums name pending line)) [] lines)
 
 -- what is left behind a first part
 pub left_by : (first rest bytes : List ℕ) → first ++ rest ≡ bytes → drop (length first) bytes ≡ rest

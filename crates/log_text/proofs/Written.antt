@@ -2,10 +2,10 @@
 use Rattle.std.proofs.Common.{◌≡◌, ◌∙◌, true, cond, List, [], ◌∷◌, ◌++◌, length, take, append_assoc, refl, ap, sym, ℕ}
 use Rattle.std.proofs.lemmas.List.{append-nil}
 use Rattle.std.proofs.lemmas.Cmp.{nat_list_eq_equiv}
-use Rattle.std.proofs.Math.Seq.{drop-append_seam, take-append_seam}
+use Rattle.std.proofs.Math.Seq.{drop-append-add, take-append_seam}
 use Rattle.log_text.specs.Lines.{ArePlain, HasNoBreak, ended, whole_lines}
 use Rattle.log_text.specs.Sums.{SpellsPlain, Sums}
-use Rattle.log_text.specs.Batches.{AreBatches, Batch, IsBatch, IsTold, batch_text, line_text, lines_text, log_text, mark_head, mark_line, mark_start, sum_of}
+use Rattle.log_text.specs.Batches.{AreBatches, Batch, IsBatch, IsTold, batch_text, line_text, lines_text, log_text, mark_head, mark_line, mark_place, mark_start, sum_of}
 use Rattle.log_text.specs.Reading.{batches_in, closed, fits, recovered, same_text, told_in}
 use Rattle.log_text.specs.Laws.{OneText, WrittenReads}
 use Rattle.log_text.proofs.Lines.{one_ended, plain_append}
@@ -17,11 +17,13 @@ take_told : (n : ℕ) (told rest : List ℕ) → length told ≡ n → take n (t
 take_told n told rest sized = ap (λ k. take k (told ++ rest)) (sym sized) ∙ take-append_seam told rest
 
 -- what was told stands in the mark
-pub told_there : (name told rest : List ℕ) → length told ≡ 16 → told_in name (mark_start name told ++ rest) ≡ told
-told_there name told rest sized =
-    let behind : List ℕ = (told ++ 32 ∷ []) ++ rest in
-    ap (told_in name) (append_assoc (mark_head name) (told ++ 32 ∷ []) rest)
-    ∙ ap (take 16) (drop-append_seam (mark_head name) behind)
+pub told_there : (sums : Sums) (name asked told rest : List ℕ) → length told ≡ 16
+    → told_in sums name (length asked) (mark_start sums name asked told ++ rest) ≡ told
+told_there sums name asked told rest sized =
+    let place : List ℕ = mark_place sums name (length asked) in
+    let behind : List ℕ = 32 ∷ (told ++ 32 ∷ []) in
+    ap (told_in sums name (length asked)) (append_assoc place behind rest)
+    ∙ ap (take 16) (drop-append-add place (behind ++ rest) 1)
     ∙ ap (take 16) (append_assoc told (32 ∷ []) rest)
     ∙ take_told 16 told (32 ∷ rest) sized
 
@@ -36,8 +38,8 @@ module _ (sums : Sums) (name : List ℕ) where
       ∙ lines_on lines sum (pending ++ line ∷ []) rest plain.1
       ∙ ap (λ p. batches_in sums name sum p (whole_lines rest)) (append_assoc pending (line ∷ []) lines)
 
-  pub closed_again : (sum : ℕ) (batch : Batch) → length batch.told ≡ 16 → closed name batch.lines (mark_line sums name sum batch) ≡ batch
-  closed_again sum batch told = λ i. record { lines = batch.lines; told = told_there name batch.told (sums.spelled (sum_of sums name sum batch)) told i }
+  pub closed_again : (sum : ℕ) (batch : Batch) → length batch.told ≡ 16 → closed sums name batch.lines (mark_line sums name sum batch) ≡ batch
+  closed_again sum batch told = λ i. record { lines = batch.lines; told = told_there sums name (lines_text batch.lines) batch.told (sums.spelled (sum_of sums name sum batch)) told i }
 
   pub mark_fits : (sum : ℕ) (batch : Batch) → length batch.told ≡ 16 → fits sums name sum batch.lines (mark_line sums name sum batch) ≡ true
   mark_fits sum batch told =
@@ -47,7 +49,7 @@ module _ (sums : Sums) (name : List ℕ) where
   pub marked : (sum : ℕ) (batch : Batch) (lines : List (List ℕ)) → length batch.told ≡ 16
       → batches_in sums name sum batch.lines (mark_line sums name sum batch ∷ lines) ≡ batch ∷ batches_in sums name (sum_of sums name sum batch) [] lines
   marked sum batch lines told =
-      let read = closed name batch.lines (mark_line sums name sum batch) in
+      let read = closed sums name batch.lines (mark_line sums name sum batch) in
       ap (λ c. cond c (read ∷ batches_in sums name (sum_of sums name sum read) [] lines) []) (mark_fits sum batch told)
       ∙ ap (λ b. b ∷ batches_in sums name (sum_of sums name sum b) [] lines) (closed_again sum batch told)
 
@@ -55,8 +57,10 @@ module _ (sums : Sums) (name : List ℕ) where
     pub plain_mark : (sum : ℕ) (batch : Batch) → IsTold batch.told → HasNoBreak (mark_line sums name sum batch)
     plain_mark sum batch told =
         let head : HasNoBreak (mark_head name) = (refl, plain_append name (32 ∷ []) named (refl, tt)) in
-        plain_append (mark_start name batch.told) (sums.spelled (sum_of sums name sum batch))
-        (plain_append (mark_head name) (batch.told ++ 32 ∷ []) head (plain_append batch.told (32 ∷ []) told.1 (refl, tt)))
+        let count = length (lines_text batch.lines) in
+        plain_append (mark_start sums name (lines_text batch.lines) batch.told) (sums.spelled (sum_of sums name sum batch))
+        (plain_append (mark_place sums name count) (32 ∷ (batch.told ++ 32 ∷ [])) (plain_append (mark_head name) (sums.spelled count) head (spells count))
+        (refl, plain_append batch.told (32 ∷ []) told.1 (refl, tt)))
         (spells (sum_of sums name sum batch))
 
     -- and so does a batch

@@ -16,10 +16,10 @@ abbrev pub CutsLine : List ℕ → Option (List ℕ × List ℕ) → Type 0
 CutsLine bytes (Some cut) = HasNoBreak cut.0 × (bytes ≡ cut.0 ++ 10 ∷ cut.1)
 CutsLine bytes None = HasNoBreak bytes
 
--- What a mark says was told, and its sum; or the line has no such form.
-abbrev pub ReadsMark : List ℕ → List ℕ → Option (List ℕ × List ℕ) → Type 0
-ReadsMark name line (Some mark) = (line ≡ mark_start name mark.0 ++ mark.1) × (length mark.0 ≡ 16)
-ReadsMark name line None = (told sum : List ℕ) → length told ≡ 16 → line ≡ mark_start name told ++ sum → ⊥
+-- What a mark of these bytes says was told, and its sum; or the line has no such form.
+abbrev pub ReadsMark : List ℕ → List ℕ → List ℕ → Option (List ℕ × List ℕ) → Type 0
+ReadsMark name asked line (Some mark) = (line ≡ mark_start own_sums name asked mark.0 ++ mark.1) × (length mark.0 ≡ 16)
+ReadsMark name asked line None = (told sum : List ℕ) → length told ≡ 16 → line ≡ mark_start own_sums name asked told ++ sum → ⊥
 
 -- What the mark of these bytes says was told, and the sum behind it; or the line is no mark of theirs.
 abbrev pub Closes : List ℕ → ℕ → List ℕ → List ℕ → Option (List ℕ × ℕ) → Type 0

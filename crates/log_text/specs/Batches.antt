@@ -30,18 +30,22 @@ lines_text lines = flat_map line_text lines
 abbrev pub mark_head : List ℕ → List ℕ
 mark_head name = 61 ∷ (name ++ 32 ∷ [])
 
--- `=NAME TOLD `: what stands in a mark before its sum
-abbrev pub mark_start : List ℕ → List ℕ → List ℕ
-mark_start name told = mark_head name ++ (told ++ 32 ∷ [])
-
 module _ (sums : Sums) (name : List ℕ) where
+  -- `=NAME LENGTH`: how a mark begins that has so many bytes of lines before it
+  abbrev pub mark_place : ℕ → List ℕ
+  mark_place count = mark_head name ++ sums.spelled count
+
+  -- `=NAME LENGTH TOLD `: what stands in a mark before its sum
+  abbrev pub mark_start : List ℕ → List ℕ → List ℕ
+  mark_start asked told = mark_place (length asked) ++ (32 ∷ (told ++ 32 ∷ []))
+
   -- the sum behind bytes that were asked, and a mark that says what was told: that of all bytes up to where it stands
   abbrev pub sum_behind : ℕ → List ℕ → List ℕ → ℕ
-  sum_behind sum asked told = sums.after sum (asked ++ mark_start name told)
+  sum_behind sum asked told = sums.after sum (asked ++ mark_start asked told)
 
-  -- `=NAME TOLD SUM`, behind those bytes
+  -- `=NAME LENGTH TOLD SUM`, behind those bytes
   abbrev pub mark_behind : ℕ → List ℕ → List ℕ → List ℕ
-  mark_behind sum asked told = mark_start name told ++ sums.spelled (sum_behind sum asked told)
+  mark_behind sum asked told = mark_start asked told ++ sums.spelled (sum_behind sum asked told)
 
   abbrev pub sum_of : ℕ → Batch → ℕ
   sum_of sum batch = sum_behind sum (lines_text batch.lines) batch.told

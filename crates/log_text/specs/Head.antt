@@ -1,7 +1,7 @@
--- What stands before the batches: the form of the log, the words of the silo that it was begun for, and its number.
-use Rattle.std.specs.Prelude.{◌≡◌, ℕ, List, ◌∷◌, ◌++◌, length, take, flat_map, codes, decimal, Option, Some, None}
+-- What stands before the batches: the form of the log, the words of the silo that it was begun for, its number, and the sum of these.
+use Rattle.std.specs.Prelude.{◌≡◌, ℕ, List, [], ◌∷◌, ◌++◌, length, take, flat_map, codes, decimal, Option, Some, None}
 use Rattle.log_text.specs.Lines.{HasNoBreak, ended}
-use Rattle.log_text.specs.Sums.{after}
+use Rattle.log_text.specs.Sums.{after, spelled}
 
 -- `silo-log 1`, and its LF: the form
 abbrev pub form_line : List ℕ
@@ -11,9 +11,13 @@ form_line = codes "silo-log 1\n"
 abbrev pub head_start : List ℕ → List ℕ
 head_start words = form_line ++ (words ++ codes "of ")
 
--- the form, the lines of the words, and `of NUMBER`
+-- what stands in it before its sum
+abbrev pub summed_head : List ℕ → List ℕ → List ℕ
+summed_head words number = head_start words ++ (number ++ 32 ∷ [])
+
+-- the form, the lines of the words, and `of NUMBER SUM`
 abbrev pub head_text : List ℕ → List ℕ → List ℕ
-head_text words number = head_start words ++ ended number
+head_text words number = summed_head words number ++ ended (spelled (after 0 (summed_head words number)))
 
 -- the name of the log, with which each of its marks begins: the first eight digits of its number
 abbrev pub name_of : List ℕ → List ℕ
@@ -26,6 +30,12 @@ first_sum words number = after 0 (head_text words number)
 -- sixteen bytes without LF
 abbrev pub IsNumber : List ℕ → Type 0
 IsNumber number = (length number ≡ 16) × HasNoBreak number
+
+-- The number and the sum in what may be a head with these words, and what stands behind it; or the bytes have no such form.
+abbrev pub ReadsHead : List ℕ → List ℕ → Option (List ℕ × List ℕ × List ℕ) → Type 0
+ReadsHead words bytes (Some head) = IsNumber head.0 × HasNoBreak head.1 × (bytes ≡ summed_head words head.0 ++ (ended head.1 ++ head.2))
+ReadsHead words bytes None = (number sum behind : List ℕ) → IsNumber number → HasNoBreak sum
+    → bytes ≡ summed_head words number ++ (ended sum ++ behind) → ⊥
 
 -- The number in the head of a log that was begun with these words, and what stands behind the head; or the bytes are no such log.
 abbrev pub CutsHead : List ℕ → List ℕ → Option (List ℕ × List ℕ) → Type 0

@@ -1,7 +1,8 @@
-//! Bytes that are cut in two.
+//! Bytes that are cut in two, or compared.
 
 ghost use Rattle.std.specs.Prelude.{◌≡◌, ◌≢◌, ◌<◌, ℕ, IfSome, None, length, option_map, slice_index, take};
 ghost use Rattle.log_text.specs.Answers.{CutsLine, Strips};
+ghost use Rattle.log_text.specs.Reading.{same_text};
 
 use memchr::memchr;
 
@@ -29,4 +30,11 @@ pub(crate) fn behind<'a>(prefix: &[u8], bytes: &'a [u8]) -> Option<&'a [u8]>
     ensures { Strips prefix.now bytes.now (option_map (λ rest. rest.now) result) }
 {
     bytes.strip_prefix(prefix)
+}
+
+/// Whether the bytes are the same.
+pub(crate) fn is_same(one: &[u8], other: &[u8]) -> bool
+    ensures { result ≡ same_text one.now other.now }
+{
+    one == other
 }

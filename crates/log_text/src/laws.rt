@@ -1,6 +1,7 @@
 //! Laws over the definitions alone. Each is the contract of a function that does nothing.
 
-ghost use Rattle.log_text.specs.Laws.{EndsPass, OneText, PrefixesPass, PrefixesRead, ReadStands, ReadsBatches, WrittenReads};
+ghost use Rattle.log_text.specs.Laws.{BatchesKept, EndsPass, LostRefused, OneText, PrefixesPass, PrefixesRead};
+ghost use Rattle.log_text.specs.Laws.{ReadStands, ReadsBatches, WrittenReads};
 ghost use Rattle.log_text.specs.Sums.{SpellsPlain, own_sums};
 
 /// What is read of the first bytes of a log are the first batches of what is read of all.
@@ -31,6 +32,18 @@ pub fn prefixes_pass()
 #[tactic(auto, using(crate::proofs::Passes::ends_pass))]
 pub fn ends_pass()
     ensures { EndsPass }
+{}
+
+/// What is cut off has no batch behind something else.
+#[tactic(auto, using(crate::proofs::Kept::batches_kept))]
+pub fn batches_kept()
+    ensures { BatchesKept }
+{}
+
+/// A batch behind something that isn't one is refused.
+#[tactic(auto, using(crate::proofs::Kept::lost_refused))]
+pub fn lost_refused()
+    ensures { LostRefused }
 {}
 
 /// No two lists of batches have one text.

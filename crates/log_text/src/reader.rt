@@ -3,11 +3,11 @@
 ghost use Rattle.std.specs.Prelude.{◌≡◌, ◌==◌, ◌<◌, IfSome, length, option_map};
 ghost use Rattle.log_text.specs.Lines.{tag_of, whole_lines};
 ghost use Rattle.log_text.specs.Sums.{own_sums};
-ghost use Rattle.log_text.specs.Batches.{mark_head};
-ghost use Rattle.log_text.specs.Reading.{ReadsBatch, asked_first, asked_lines, fault_in, is_mark, marks, next_of, same_text};
+ghost use Rattle.log_text.specs.Batches.{mark_head, mark_place};
+ghost use Rattle.log_text.specs.Reading.{ReadsBatch, asked_first, asked_lines, fault_in, is_mark, is_placed, marks, may_end, next_of};
 ghost use Rattle.log_text.specs.Answers.{Closes, ReadsMark, Strips, TakesAsked};
 
-use crate::cuts::{behind, cut_line};
+use crate::cuts::{behind, cut_line, is_same};
 use crate::sum::{spell, sum_after_both};
 
 /// What stands behind the head of a mark.
@@ -23,11 +23,24 @@ fn behind_head<'a>(name: &[u8], line: &'a [u8]) -> Option<&'a [u8]>
     behind(b" ", rest)
 }
 
-/// What a mark says was told, and its sum.
-fn mark_parts<'a>(name: &[u8], line: &'a [u8]) -> Option<(&'a [u8], &'a [u8])>
-    ensures { ReadsMark name.now line.now (option_map (λ mark. (mark.0.now, mark.1.now)) result) }
+/// What stands behind the number of the bytes before it, in a mark that has so many.
+fn behind_place<'a>(name: &[u8], before: usize, line: &'a [u8]) -> Option<&'a [u8]>
+    ensures { Strips (mark_place own_sums name.now before) line.now (option_map (λ rest. rest.now) result) }
 {
     let Some(rest) = behind_head(name, line) else {
+        return None;
+    };
+    behind(&spell(before as u64), rest)
+}
+
+/// What a mark of these bytes says was told, and its sum.
+fn mark_parts<'a>(name: &[u8], asked: &[u8], line: &'a [u8]) -> Option<(&'a [u8], &'a [u8])>
+    ensures { ReadsMark name.now asked.now line.now (option_map (λ mark. (mark.0.now, mark.1.now)) result) }
+{
+    let Some(rest) = behind_place(name, asked.len(), line) else {
+        return None;
+    };
+    let Some(rest) = behind(b" ", rest) else {
         return None;
     };
     let Some((told, rest)) = rest.split_at_checked(16) else {
@@ -39,18 +52,11 @@ fn mark_parts<'a>(name: &[u8], line: &'a [u8]) -> Option<(&'a [u8], &'a [u8])>
     Some((told, sum))
 }
 
-/// Whether the bytes are the same.
-fn is_same(one: &[u8], other: &[u8]) -> bool
-    ensures { result ≡ same_text one.now other.now }
-{
-    one == other
-}
-
 /// What the mark of these bytes says was told, and the sum behind it.
 fn close<'a>(name: &[u8], sum: u64, asked: &[u8], line: &'a [u8]) -> Option<(&'a [u8], u64)>
     ensures { Closes name.now sum asked.now line.now (option_map (λ mark. (mark.0.now, mark.1)) result) }
 {
-    let Some((told, given)) = mark_parts(name, line) else {
+    let Some((told, given)) = mark_parts(name, asked, line) else {
         return None;
     };
     let next = sum_after_both(sum, asked, &line[..line.len() - given.len()]);
@@ -132,18 +138,31 @@ fn is_a_mark(name: &[u8], line: &[u8]) -> bool
     }
 }
 
-/// How many marks of the log the whole lines have.
-fn count_marks(name: &[u8], bytes: &[u8]) -> usize
-    ensures { result ≡ marks name.now (whole_lines bytes.now) }
+/// Whether a mark says how many bytes stand before it.
+fn is_in_place(name: &[u8], before: usize, line: &[u8]) -> bool
+    ensures { result ≡ is_placed own_sums name.now (before, line.now) }
+{
+    match behind_place(name, before, line) {
+        Some(_) => true,
+        None => false,
+    }
+}
+
+/// Whether the bytes may be the end of the batch that was written last.
+fn may_be_end(name: &[u8], bytes: &[u8]) -> bool
+    ensures { result ≡ may_end own_sums name.now (marks name.now 0 (whole_lines bytes.now)) }
 {
     let mut rest = bytes;
-    let mut count = 0;
+    let mut is_marked = false;
     'lines: loop {
         let Some((line, behind)) = cut_line(rest) else {
-            return count;
+            return true;
         };
         if is_a_mark(name, line) {
-            count += 1;
+            if is_marked || !is_in_place(name, bytes.len() - rest.len(), line) {
+                return false;
+            }
+            is_marked = true;
         }
         rest = behind;
     }
@@ -169,11 +188,11 @@ fn count_asked(bytes: &[u8]) -> usize
 }
 
 /// The number of whole lines before the one that is at fault, if what stands behind the last batch is refused: if two
-/// marks of the log stand there. Otherwise it is the end of a batch that was never acknowledged.
+/// marks of the log stand there, or one in another place. Otherwise it is the end of a batch that was never acknowledged.
 pub fn fault_behind(name: &[u8], bytes: &[u8]) -> Option<usize>
-    ensures { result ≡ fault_in name.now bytes.now }
+    ensures { result ≡ fault_in own_sums name.now bytes.now }
 {
-    if count_marks(name, bytes) < 2 {
+    if may_be_end(name, bytes) {
         return None;
     }
     Some(count_asked(bytes))

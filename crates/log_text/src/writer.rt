@@ -34,11 +34,14 @@ pub fn push_line(text: &mut Vec<u8>, line: &[u8]) -> Result<(), AllocError>
 
 /// Adds what stands in a mark before its sum, or a part of it.
 fn push_mark_start(text: &mut Vec<u8>, name: &[u8], told: &[u8]) -> Result<(), AllocError>
-    ensures ok { OnOk result (text.new.items ≡ text.old.items ++ mark_start name.now told.now) }
+    ensures ok { OnOk result (text.new.items ≡ text.old.items ++ mark_start own_sums name.now text.old.items told.now) }
     ensures err { IsPrefixOf text.old.items text.new.items }
 {
+    let length = spell(text.len() as u64);
     text.push(b'=')?;
     text.extend_from_slice(name)?;
+    text.push(b' ')?;
+    text.extend_from_slice(&length)?;
     text.push(b' ')?;
     text.extend_from_slice(told)?;
     text.push(b' ')?;

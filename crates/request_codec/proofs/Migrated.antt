@@ -1,5 +1,5 @@
 -- A message of the form before, with the first byte of the form of now.
-use Rattle.std.proofs.Common.{◌≡◌, ℕ, zero, suc, ◌<◌, Bool, true, false, ltb, eqb, true≢false, List, [], ◌∷◌, ◌-◌, length, take, drop, Option, Some, None, refl, sym, ap, ◌∙◌, arith}
+use Rattle.std.proofs.Common.{◌≡◌, ℕ, zero, suc, ◌<◌, ◌≤◌, Bool, true, false, ltb, eqb, true≢false, List, [], ◌∷◌, ◌++◌, ◌-◌, length, take, drop, Option, Some, None, refl, sym, ap, subst, ◌∙◌, arith}
 use Rattle.std.specs.Prelude.{IsSome, is_some, if◌then◌else◌}
 use Rattle.std.proofs.lemmas.Option.{same_Some}
 use Rattle.std.proofs.lemmas.List.{take_all}
@@ -15,7 +15,8 @@ use Rattle.hex.specs.Hex.{IsBytes}
 use Rattle.std.proofs.lemmas.Bool.{eqb-true}
 use Rattle.request_codec.proofs.Numbers.{IsBytes-rest}
 use Rattle.request_codec.proofs.Spelled.{message_spelling-is}
-use Rattle.request_codec.proofs.Whole.{message_found}
+use Rattle.request_codec.specs.Spelling.{SpellsMessage, SpellsOldMessage, SpellsOldState}
+use Rattle.request_codec.proofs.Whole.{denied, message_found, message_again, state_found, state_again}
 
 -- ---- a value that holds no bytes
 
@@ -123,3 +124,71 @@ old_is_state bytes some =
     let made = some_of (old_state bytes) some in
     let v = bound (state_value bytes) plain_value made.0 made.1 in
     made.1 ∙ ap (λ (w : Tree). Some w) (sym (plain_value_is v.0 made.0 v.2)) ∙ sym v.1
+
+-- ---- the relations
+
+abbrev pub plain_of : (call made : Call) → plain_call call ≡ Some made → holds_bytes made.argument ≡ false
+plain_of call made e =
+    let is = some_if_fails (holds_bytes call.argument) (Some call) made e in
+    ap (λ (c : Call). holds_bytes c.argument) (sym (same_Some call made is.1)) ∙ is.0
+
+-- what is read of bytes of the form before is what they spell
+pub old_found : (bytes : List ℕ) (made : Call) → IsBytes bytes → old_call bytes ≡ Some made → SpellsOldMessage made.method made.argument bytes
+old_found [] made fits is = absurd (no_old_call_in [] (omega arith) (ap is_some is))
+old_found (b ∷ rest) made fits is =
+    let call = bound (versioned_call old_version (b ∷ rest)) plain_call made is in
+    let now : message_call (message_version ∷ rest) ≡ Some made = changed b rest call.0 call.1 ∙ ap (λ (c : Call). Some c) (plain_is call.0 made call.2) in
+    let found = message_found (message_version ∷ rest) made (fits_again rest (IsBytes-rest b rest fits)) now in
+    record {
+      name = found.name;
+      rest = found.rest;
+      method_spelled = found.method_spelled;
+      value_spelled = found.value_spelled;
+      plain = plain_of call.0 made call.2;
+      whole_bytes = ap (λ (v : ℕ). v ∷ rest) (first_is b rest call.0 call.1) ∙ ap (λ (l : List ℕ). old_version ∷ drop 1 l) found.whole_bytes;
+      depth_within = found.depth_within;
+      length_within = found.length_within;
+    }
+
+-- both forms hold the same behind their first byte
+one_call : (bytes : List ℕ) → versioned_call old_version (old_version ∷ bytes) ≡ message_call (message_version ∷ bytes)
+unfolding versioned_call
+one_call bytes = refl
+
+passes : {A : Type 0} (b : Bool) (x : A) → b ≡ false → (if b then None else Some x) ≡ Some x
+passes true x e = absurd (true≢false e)
+passes false x e = refl
+
+old_again : (bytes method : List ℕ) (v : Tree) → SpellsOldMessage method v bytes → old_call bytes ≡ Some (asks method v)
+old_again bytes method v is =
+    let short : length (message_version ∷ (is.name ++ is.rest)) ≤ message_limit = subst (λ (l : List ℕ). length l ≤ message_limit) is.whole_bytes is.length_within in
+    let now : SpellsMessage method v (message_version ∷ (is.name ++ is.rest)) = record {
+      name = is.name;
+      rest = is.rest;
+      method_spelled = is.method_spelled;
+      value_spelled = is.value_spelled;
+      whole_bytes = refl;
+      depth_within = is.depth_within;
+      length_within = short;
+    } in
+    ap old_call is.whole_bytes
+    ∙ ap (λ (o : Option Call). o >>= plain_call) (one_call (is.name ++ is.rest) ∙ message_again _ method v now)
+    ∙ passes (holds_bytes v) (asks method v) is.plain
+
+-- where they are refused, they spell no message of the form before
+pub old_denied : (bytes : List ℕ) → false ≡ is_some (old_call bytes) → (method : List ℕ) → (v : Tree) → SpellsOldMessage method v bytes → ⊥
+old_denied bytes none method v is = denied (old_call bytes) (asks method v) none (old_again bytes method v is)
+
+pub old_state_found : (bytes : List ℕ) (made : Tree) → IsBytes bytes → old_state bytes ≡ Some made → SpellsOldState made bytes
+old_state_found bytes made fits is =
+    let v = bound (state_value bytes) plain_value made is in
+    let plain = some_if_fails (holds_bytes v.0) (Some v.0) made v.2 in
+    let one : v.0 ≡ made = same_Some v.0 made plain.1 in
+    record {
+      spelled = state_found bytes made fits (v.1 ∙ ap (λ (w : Tree). Some w) one);
+      plain = ap holds_bytes (sym one) ∙ plain.0;
+    }
+
+pub old_state_denied : (bytes : List ℕ) → false ≡ is_some (old_state bytes) → (v : Tree) → SpellsOldState v bytes → ⊥
+old_state_denied bytes none v is =
+    denied (old_state bytes) v none (ap (λ (o : Option Tree). o >>= plain_value) (state_again bytes v is.spelled) ∙ passes (holds_bytes v) v is.plain)

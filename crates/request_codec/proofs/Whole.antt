@@ -33,7 +33,7 @@ is_there o x e = rw e refl
 is_it : {A : Type 0} (o : Option A) (default x : A) → o ≡ Some x → unwrap_or o default ≡ x
 is_it {A} o default x e = ap (λ (p : Option A). unwrap_or p default) e
 
-denied : {A : Type 0} (o : Option A) (x : A) → false ≡ is_some o → o ≡ Some x → ⊥
+pub denied : {A : Type 0} (o : Option A) (x : A) → false ≡ is_some o → o ≡ Some x → ⊥
 denied o x e there = true≢false (sym (e ∙ ap is_some there))
 
 -- ---- states

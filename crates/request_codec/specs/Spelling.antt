@@ -3,9 +3,9 @@ use Rattle.std.specs.Prelude.{◌≡◌, ℕ, ◌<◌, ◌≤◌, ◌^◌, true,
 use Rattle.std.specs.Int.{w32, w64, to_be_bytes, cast_unsigned}
 use Rattle.std.specs.Cmp.Lexicographic.{slice_cmp}
 use Rattle.std.specs.Ordering.{nat_cmp, is_lt}
-use Rattle.request_codec.specs.Limits.{message_version, depth_limit, message_limit, state_limit}
+use Rattle.request_codec.specs.Limits.{message_version, old_version, depth_limit, message_limit, state_limit}
 use Rattle.request_codec.specs.Tree.{Tree, null, truth, integer, text, list, map, Members, no_members, member, Fields, no_fields, field}
-use Rattle.request_codec.specs.Tree.{members_count, fields_count, depth}
+use Rattle.request_codec.specs.Tree.{members_count, fields_count, depth, holds_bytes}
 use Rattle.request_codec.specs.Tree as tree
 use Rattle.hex.specs.Hex.{IsBytes}
 
@@ -58,3 +58,19 @@ pub record SpellsState (v : Tree) (bytes : List ℕ) : Type 0 where
   pub value_spelled : Spells v bytes
   pub depth_within : depth v ≤ depth_limit
   pub length_within : length bytes ≤ state_limit
+
+-- A message of the form before: its version, and no bytes among its values.
+pub record SpellsOldMessage (method : List ℕ) (v : Tree) (bytes : List ℕ) : Type 0 where
+  pub name : List ℕ
+  pub rest : List ℕ
+  pub method_spelled : SpellsText method name
+  pub value_spelled : Spells v rest
+  pub plain : holds_bytes v ≡ false
+  pub whole_bytes : bytes ≡ old_version ∷ (name ++ rest)
+  pub depth_within : depth v ≤ depth_limit
+  pub length_within : length bytes ≤ message_limit
+
+-- A state of before: no bytes stand in its value.
+pub record SpellsOldState (v : Tree) (bytes : List ℕ) : Type 0 where
+  pub spelled : SpellsState v bytes
+  pub plain : holds_bytes v ≡ false

@@ -1,13 +1,15 @@
 //! Messages and states of before: the first byte of a message was another one, and no bytes were among the values.
 
-ghost use Rattle.std.specs.Prelude.{◌≡◌, None, option_map, is_some, IsSome, IfOk};
+ghost use Rattle.std.specs.Prelude.{ℕ, ◌≡◌, List, None, Err, option_map, is_some, IsSome, IfOk};
 ghost use Rattle.request_codec.specs.Reading.{value_at, members_at, fields_at};
 ghost use Rattle.request_codec.specs.Call.{message_call, old_call, old_state};
 ghost use Rattle.request_codec.specs.inside.Ends.{holding};
 ghost use Rattle.request_codec.specs.inside.Plain.{old_call_behind, plain_alone};
-ghost use Rattle.request_codec.specs.Tree.{holds_bytes, members_hold_bytes, fields_hold_bytes};
+ghost use Rattle.request_codec.specs.Tree.{Tree, holds_bytes, members_hold_bytes, fields_hold_bytes};
+ghost use Rattle.request_codec.specs.Spelling.{SpellsOldMessage, SpellsOldState};
 ghost use Rattle.request_codec.specs.Answers.{Reads};
 ghost use Rattle.request_codec.specs.Written.{spelling, old_spelling};
+ghost use Rattle.request_codec.specs.declared.fault.CodecFault.TheVariants as faults;
 
 use crate::bytes::{Start, may_follow, start_of, text_of};
 use crate::fault::CodecFault;
@@ -139,7 +141,10 @@ fn renewed(alloc: Global, bytes: &[u8]) -> Result<Vec<u8>, AllocError>
 /// refused.
 pub fn migrate_message(alloc: Global, bytes: &[u8]) -> Result<Message, CodecFault>
     ensures reads { Reads (λ made. made) result (old_call bytes.now) }
+    ensures spelled { IfOk result (λ made. SpellsOldMessage made.method made.argument bytes.now) }
     ensures exact { IfOk result (λ made. old_spelling made ≡ bytes.now) }
+    ensures none { result ≡ Err faults.NotAMessage
+        → (method : List ℕ) → (v : Tree) → SpellsOldMessage method v bytes.now → ⊥ }
 {
     if !is_old_message(bytes) {
         return Err(CodecFault::NotAMessage);
@@ -166,7 +171,9 @@ fn is_old_state(bytes: &[u8]) -> bool
 /// `NotAMessage` where they spell no such state. `Memory` if memory was refused.
 pub fn read_old_state(alloc: Global, bytes: &[u8]) -> Result<StateBytes, CodecFault>
     ensures reads { Reads (λ read. read) result (old_state bytes.now) }
+    ensures spelled { IfOk result (λ read. SpellsOldState read bytes.now) }
     ensures exact { IfOk result (λ read. spelling read ≡ bytes.now) }
+    ensures none { result ≡ Err faults.NotAMessage → (v : Tree) → SpellsOldState v bytes.now → ⊥ }
 {
     if !is_old_state(bytes) {
         return Err(CodecFault::NotAMessage);

@@ -14,7 +14,8 @@ use Rattle.silo_model.specs.Opening.{Setup}
 use Rattle.line_protocol.specs.declared.written.WriterCalls.{WriterCalls}
 use Rattle.line_service.specs.Counts.{codes_of, counts_text}
 use Rattle.line_service.specs.Reasons.{reasons_behind}
-use Rattle.grain_kinds.specs.Kinds.{newest_kinds}
+use Rattle.grain_logic.specs.Logic.{Logic}
+use Rattle.command_parts.specs.Setups.{Start}
 use Rattle.std.specs.Prelude.{IfSome}
 use Rattle.std.proofs.lemmas.Option.{IfSome_then}
 use Rattle.line_protocol.specs.declared.fault.LineFault.TheVariants as line
@@ -38,19 +39,19 @@ use Rattle.command_parts.specs.declared.failure.Cause.TheVariants as cause
 -- ---- an input isn't served
 
 -- since the first journal isn't written
-pub not_begun : (setup : Setup) (files : FileClaims) (journal from : Option (List ℕ)) (reading : ReaderCalls) (before : Option (List ℕ)) (writing : WriterCalls) (why : Cause) → IsKeepingCause files.may_fail journal why
-    → ServingFailsBy setup files journal why from from reading before before writing
-not_begun setup files journal from reading before writing cause.Read is = absurd is
-not_begun setup files journal from reading before writing cause.Write is = inl (is, (Keeps-refl from, Keeps-refl before))
-not_begun setup files journal from reading before writing cause.Memory is = inl (Keeps-refl before)
-not_begun setup files journal from reading before writing cause.TooMuch is = absurd is
-not_begun setup files journal from reading before writing cause.NoWorker is = absurd is
-not_begun setup files journal from reading before writing cause.Strayed is = absurd is
-not_begun setup files journal from reading before writing cause.InUse is = absurd is
+pub not_begun : (start : Start) (files : FileClaims) (journal from : Option (List ℕ)) (reading : ReaderCalls) (before : Option (List ℕ)) (writing : WriterCalls) (why : Cause) → IsKeepingCause files.may_fail journal why
+    → ServingFailsBy start files journal why from from reading before before writing
+not_begun start files journal from reading before writing cause.Read is = absurd is
+not_begun start files journal from reading before writing cause.Write is = inl (is, (Keeps-refl from, Keeps-refl before))
+not_begun start files journal from reading before writing cause.Memory is = inl (Keeps-refl before)
+not_begun start files journal from reading before writing cause.TooMuch is = absurd is
+not_begun start files journal from reading before writing cause.NoWorker is = absurd is
+not_begun start files journal from reading before writing cause.Strayed is = absurd is
+not_begun start files journal from reading before writing cause.InUse is = absurd is
 
 -- behind the first journal
-module _ (setup : Setup) (files : FileClaims) (journal : Option (List ℕ)) (from left : Option (List ℕ)) (reading : ReaderCalls) (before : Option (List ℕ)) (writing : WriterCalls) (first : WritesFirst setup files journal) where
-  by_service : (why : ServiceFault) → StopsServing why from reading → ServingFailsBy setup files journal (service_cause why) from left reading before before writing
+module _ (start : Start) (files : FileClaims) (journal : Option (List ℕ)) (from left : Option (List ℕ)) (reading : ReaderCalls) (before : Option (List ℕ)) (writing : WriterCalls) (first : WritesFirst start files journal) where
+  by_service : (why : ServiceFault) → StopsServing why from reading → ServingFailsBy start files journal (service_cause why) from left reading before before writing
   by_service (service.Failed line.Read) stops = (stops, Keeps-refl before, first)
   by_service (service.Failed line.TooMuch) stops = (stops, Keeps-refl before, first)
   by_service (service.Failed line.Memory) stops = inl (Keeps-refl before)
@@ -58,8 +59,8 @@ module _ (setup : Setup) (files : FileClaims) (journal : Option (List ℕ)) (fro
   by_service service.NoWorker stops = (Keeps-refl before, first)
   by_service service.Strayed stops = (Keeps-refl before, first)
 
-  pub not_served : (why : ServiceFault) (by : Cause) → by ≡ service_cause why → StopsServing why from reading → ServingFailsBy setup files journal by from left reading before before writing
-  not_served why by is stops = subst (λ (c : Cause). ServingFailsBy setup files journal c from left reading before before writing) (sym is) (by_service why stops)
+  pub not_served : (why : ServiceFault) (by : Cause) → by ≡ service_cause why → StopsServing why from reading → ServingFailsBy start files journal by from left reading before before writing
+  not_served why by is stops = subst (λ (c : Cause). ServingFailsBy start files journal c from left reading before before writing) (sym is) (by_service why stops)
 
 -- ---- lines were read, and served
 
@@ -79,8 +80,8 @@ module _ (setup : Setup) (from ahead left : Option (List ℕ)) (same : ahead ≡
   reads : IfSome from (λ input. ReadsAll input lines left)
   reads = subst (λ (o : Option (List ℕ)). IfSome o (λ input. ReadsAll input lines left)) same read
 
-  pub served_lines : (answers : List (List Reply)) → LeavesServed newest_kinds setup (lanes_of lines) silo answers → IfSome from (λ input. IsServed newest_kinds setup input left refusals silo answers)
-  served_lines answers served = IfSome_then from reads (λ input is. record { lines = lines; read = is; refused = refused; lanes = served })
+  pub served_lines : (logic : Logic) (answers : List (List Reply)) → LeavesServed logic setup (lanes_of lines) silo answers → IfSome from (λ input. IsServed logic setup input left refusals silo answers)
+  served_lines logic answers served = IfSome_then from reads (λ input is. record { lines = lines; read = is; refused = refused; lanes = served })
 
   pub told_lines : (telling : Telling) (reasons text : List ℕ) → reasons ≡ (if telling.explain_lines then reasons_behind 0 lines else [])
       → text ≡ reasons ++ (if telling.summary then counts_text (length lines) (codes_of refusals silo.whole.replies) (length silo.journal) else [])
@@ -109,9 +110,9 @@ not_asked telling none = go telling.explain_lines telling.summary refl refl none
 
 -- ---- lines were served
 
-module _ (setup : Setup) (files : FileClaims) (journal : Option (List ℕ)) (from left : Option (List ℕ)) (reading : ReaderCalls) (before after : Option (List ℕ)) (writing : WriterCalls) (outcome : Outcome) (served : LeavesOutcome setup from left outcome) where
+module _ (start : Start) (files : FileClaims) (journal : Option (List ℕ)) (from left : Option (List ℕ)) (reading : ReaderCalls) (before after : Option (List ℕ)) (writing : WriterCalls) (outcome : Outcome) (served : LeavesOutcome start from left outcome) where
   -- but the journal wasn't written
-  pub not_kept : (fails : List ℕ → Type 0) (why : Cause) → IsKeepingCause fails journal why → (MayFailAt fails journal → MayFailAgain setup files journal) → ServingFailsBy setup files journal why from left reading before before writing
+  pub not_kept : (fails : List ℕ → Type 0) (why : Cause) → IsKeepingCause fails journal why → (MayFailAt fails journal → MayFailAgain start files journal) → ServingFailsBy start files journal why from left reading before before writing
   not_kept fails cause.Read is again = absurd is
   not_kept fails cause.Write is again = inr (inl (record { fails = again is; outcome = outcome; served = served; kept = Keeps-refl before }))
   not_kept fails cause.Memory is again = inl (Keeps-refl before)
@@ -121,35 +122,35 @@ module _ (setup : Setup) (files : FileClaims) (journal : Option (List ℕ)) (fro
   not_kept fails cause.InUse is again = absurd is
 
   -- but their text wasn't written whole
-  by_fault : (why : LineFault) → KeepsSecond setup files journal outcome.silo → StopsWriting why (outcome_lines outcome) before after → (why ≡ line.Write → writing.failed ≡ true)
-      → ServingFailsBy setup files journal (cause_of why) from left reading before after writing
+  by_fault : (why : LineFault) → KeepsSecond start files journal outcome.silo → StopsWriting why (outcome_lines outcome) before after → (why ≡ line.Write → writing.failed ≡ true)
+      → ServingFailsBy start files journal (cause_of why) from left reading before after writing
   by_fault line.Read kept stops failed = absurd stops
   by_fault line.Write kept stops failed = inr (inr (record { outcome = outcome; served = served; kept = kept; part = record { part = stops; failed = failed refl } }))
   by_fault line.Memory kept stops failed = inr (record { outcome = outcome; served = served; kept = kept; part = stops })
   by_fault line.TooMuch kept stops failed = absurd stops
 
-  pub not_written : (why : LineFault) (by : Cause) → by ≡ cause_of why → KeepsSecond setup files journal outcome.silo → StopsWriting why (outcome_lines outcome) before after → (why ≡ line.Write → writing.failed ≡ true)
-      → ServingFailsBy setup files journal by from left reading before after writing
-  not_written why by is kept stops failed = subst (λ (c : Cause). ServingFailsBy setup files journal c from left reading before after writing) (sym is) (by_fault why kept stops failed)
+  pub not_written : (why : LineFault) (by : Cause) → by ≡ cause_of why → KeepsSecond start files journal outcome.silo → StopsWriting why (outcome_lines outcome) before after → (why ≡ line.Write → writing.failed ≡ true)
+      → ServingFailsBy start files journal by from left reading before after writing
+  not_written why by is kept stops failed = subst (λ (c : Cause). ServingFailsBy start files journal c from left reading before after writing) (sym is) (by_fault why kept stops failed)
 
 -- ---- what was written to files
 
-module _ (setup : Setup) (files : FileClaims) (from left : Option (List ℕ)) where
+module _ (start : Start) (files : FileClaims) (from left : Option (List ℕ)) where
   -- the first journal, or nothing
-  pub first_at_most : (journal : Option (List ℕ)) → WritesFirstAtMost setup files journal → WritesJournalAtMost setup files journal from left
+  pub first_at_most : (journal : Option (List ℕ)) → WritesFirstAtMost start files journal → WritesJournalAtMost start files journal from left
   first_at_most None same = same
   first_at_most (Some path) is = ⊎_elim (λ same. inl same) (λ written. inr (inl written)) is
 
   -- the first journal
-  pub first_written : (journal : Option (List ℕ)) → WritesFirst setup files journal → WritesJournalAtMost setup files journal from left
+  pub first_written : (journal : Option (List ℕ)) → WritesFirst start files journal → WritesJournalAtMost start files journal from left
   first_written None same = same
   first_written (Some path) written = inr (inl written)
 
 -- the first, and then perhaps the second
-module _ {F : Type 0} (may_hold : F → List ℕ → List ℕ → Type 0) (may_fail : F → List ℕ → Type 0) (may_leave : F → List ℕ → List ℕ → F → Type 0) (setup : Setup) (old mid new : F) where
-  pub second_at_most : (journal from left : Option (List ℕ)) (outcome : Outcome) → LeavesOutcome setup from left outcome → WritesFirst setup (claims may_hold may_fail may_leave old mid) journal
-      → WritesAtMost (claims may_hold may_fail may_leave mid new) journal outcome.silo → WritesJournalAtMost setup (claims may_hold may_fail may_leave old new) journal from left
+module _ {F : Type 0} (may_hold : F → List ℕ → List ℕ → Type 0) (may_fail : F → List ℕ → Type 0) (may_leave : F → List ℕ → List ℕ → F → Type 0) (start : Start) (old mid new : F) where
+  pub second_at_most : (journal from left : Option (List ℕ)) (outcome : Outcome) → LeavesOutcome start from left outcome → WritesFirst start (claims may_hold may_fail may_leave old mid) journal
+      → WritesAtMost start.version (claims may_hold may_fail may_leave mid new) journal outcome.silo → WritesJournalAtMost start (claims may_hold may_fail may_leave old new) journal from left
   second_at_most None from left outcome served a b = b ∙ a
   second_at_most (Some path) from left outcome served a b =
-      ⊎_elim (λ same. inr (inl (subst (λ (f : F). may_leave old path (empty_journal setup) f) (sym same) a)))
+      ⊎_elim (λ same. inr (inl (subst (λ (f : F). may_leave old path (empty_journal start) f) (sym same) a)))
       (λ written. inr (inr (record { outcome = outcome; served = served; written = (mid, a, written) }))) b

@@ -11,10 +11,9 @@ ghost use Rattle.serve_command.specs.Lanes.{AreLanesOf, IsServed, LeavesServed, 
 
 use crate::fault::ServiceFault;
 use client_lanes::Lane;
-use grain_id::HashSeed;
+use command_parts::Start;
 use grain_logic::GrainLogic;
 use grain_storage::MemoryStorage;
-use idle_collector::AgeTable;
 use line_parser::{Line, LineRefusal};
 use line_protocol::{Input, LineFault, read_all};
 use line_service::asked_by;
@@ -23,7 +22,6 @@ use std::alloc::Global;
 use std::io::Read;
 use std::sync::Wait;
 use std::thread::Threads;
-use tenant_gate::{Age, TenantTable};
 use worker_host::{ServeFault, ServeReport, TurnGate, serve_seeded};
 
 /// What became of an input: the silo, each lane's answers, and the refusals of lines of no lane.
@@ -53,27 +51,24 @@ fn serve_lanes<
     G: TurnGate + Sync,
 >(
     rt: &H,
+    start: Start<L>,
     workers: usize,
-    tenants: TenantTable,
-    age: Age,
-    ages: AgeTable,
-    seed: HashSeed,
-    logic: L,
     lanes: &[Lane],
     gate: &G,
 ) -> Result<ServeReport<MemoryStorage, L>, ServeFault>
     requires workers { (1 ≤ workers) × (workers ≤ 64) }
     requires distinct { AreDistinct lanes.now }
-    ensures { IfOk result (λ report. LeavesServed L.logic (setup_of tenants age ages) lanes.now report.silo
+    ensures { IfOk result (λ report. LeavesServed L.logic (setup_of start.tenants start.age start.ages) lanes.now report.silo
         (map_list (λ v. v.items) report.answers.items)) }
 {
     let alloc = rt.alloc();
+    let seed = start.seed;
     let setup = Setup {
-        tenants,
-        age,
-        ages,
+        tenants: start.tenants,
+        age: start.age,
+        ages: start.ages,
         storage: MemoryStorage::seeded(alloc, seed),
-        logic,
+        logic: start.logic,
     };
     let report = serve_seeded(rt, alloc, setup, seed, lanes, workers, gate)?;
     // For the proof: a storage in memory never fails.
@@ -84,7 +79,7 @@ fn serve_lanes<
 /// Serves lines that were read, by so many threads, 1 to 64, over no rows at the start. Requests go to
 /// the lane of their client, ticks and sweeps to nobody's, lanes in the order of their first lines; a line
 /// that no lane gives is refused. A gate that watches is told of each turn before its body runs. Grains, rows and
-/// clients are found by hashes from the seed, on which nothing that is answered depends.
+/// clients are found by hashes from the start's seed, on which nothing that is answered depends.
 ///
 /// # Errors
 ///
@@ -95,33 +90,29 @@ pub fn serve_read<
     G: TurnGate + Sync,
 >(
     rt: &H,
+    start: Start<L>,
     workers: usize,
-    tenants: TenantTable,
-    age: Age,
-    ages: AgeTable,
-    seed: HashSeed,
-    logic: L,
     said: Vec<Line>,
     gate: &G,
 ) -> Result<ServedInput<L>, ServiceFault>
     requires workers { (1 ≤ workers) × (workers ≤ 64) }
     ensures refused { IfOk result (λ served. served.refusals.items ≡ refusals_of said.items) }
-    ensures lanes { IfOk result (λ served. LeavesServed L.logic (setup_of tenants age ages) (lanes_of said.items) served.report.silo
-        (map_list (λ v. v.items) served.report.answers.items)) }
+    ensures lanes { IfOk result (λ served. LeavesServed L.logic (setup_of start.tenants start.age start.ages) (lanes_of said.items)
+        served.report.silo (map_list (λ v. v.items) served.report.answers.items)) }
     ensures served_lanes { IfOk result (λ served. served.lanes.items ≡ lanes_of said.items) }
 
     // The silo was opened with these tenants, this age and these ages, and no rows.
-    ensures setup { IfOk result (λ served. served.report.silo.setup ≡ setup_of tenants age ages) }
+    ensures setup { IfOk result (λ served. served.report.silo.setup ≡ setup_of start.tenants start.age start.ages) }
     ensures no_rows { IfOk result (λ served. entries served.report.silo.setup.rows ≡ []) }
 
     // It is a fault of serving lanes, or memory was refused.
     ensures fault { IfErr result (λ why. (fault : ServeFaultValue) × (why ≡ serving_fault fault)) }
 {
-    let Ok(asked) = asked_by(rt.alloc(), seed, said) else {
+    let Ok(asked) = asked_by(rt.alloc(), start.seed, said) else {
         return Err(ServiceFault::Failed(LineFault::Memory));
     };
     let lanes = asked.lanes.as_slice();
-    match serve_lanes(rt, workers, tenants, age, ages, seed, logic, lanes, gate) {
+    match serve_lanes(rt, start, workers, lanes, gate) {
         Ok(report) => Ok(ServedInput {
             refusals: asked.refusals,
             report,
@@ -144,32 +135,28 @@ pub fn serve_input<
     G: TurnGate + Sync,
 >(
     rt: &H,
+    start: Start<L>,
     workers: usize,
-    tenants: TenantTable,
-    age: Age,
-    ages: AgeTable,
-    seed: HashSeed,
-    logic: L,
     input: &mut Input<R>,
     gate: &G,
 ) -> Result<ServedInput<L>, ServiceFault>
     requires workers { (1 ≤ workers) × (workers ≤ 64) }
     ensures served { IfOk result (λ served. IfSome (left_of input.old.lines (R.remaining input.old.reader)) (λ bytes.
-        IsServed L.logic (setup_of tenants age ages) bytes (R.remaining input.new.reader) served.refusals.items served.report.silo
-        (map_list (λ v. v.items) served.report.answers.items))) }
+        IsServed L.logic (setup_of start.tenants start.age start.ages) bytes (R.remaining input.new.reader) served.refusals.items
+        served.report.silo (map_list (λ v. v.items) served.report.answers.items))) }
 
     ensures served_lanes { IfOk result (λ served. IfSome (left_of input.old.lines (R.remaining input.old.reader)) (λ bytes.
         AreLanesOf bytes (R.remaining input.new.reader) served.lanes.items)) }
 
     // The silo was opened with these tenants, this age and these ages, and no rows.
-    ensures setup { IfOk result (λ served. served.report.silo.setup ≡ setup_of tenants age ages) }
+    ensures setup { IfOk result (λ served. served.report.silo.setup ≡ setup_of start.tenants start.age start.ages) }
     ensures no_rows { IfOk result (λ served. entries served.report.silo.setup.rows ≡ []) }
 
     // Nothing was written yet.
     ensures fault { IfErr result (λ why. StopsServing why (left_of input.old.lines (R.remaining input.old.reader)) input.new.lines.calls) }
 {
     let said = read_all(rt.alloc(), input)?;
-    match serve_read(rt, workers, tenants, age, ages, seed, logic, said, gate) {
+    match serve_read(rt, start, workers, said, gate) {
         Ok(served) => Ok(served),
         Err(fault) => Err(fault),
     }

@@ -6,7 +6,7 @@ ghost use Rattle.line_service.specs.Counts.{codes_of, counts_text};
 ghost use Rattle.line_service.specs.Reasons.{reasons_behind};
 
 use crate::lanes::ServedInput;
-use grain_kinds::NewestKinds;
+use grain_logic::GrainLogic;
 use line_parser::Line;
 use line_service::{push_counts, push_reasons};
 use silo_words::Telling;
@@ -31,12 +31,12 @@ pub fn reasons_text(alloc: Global, telling: Telling, lines: &[Line]) -> Result<S
 }
 
 /// The text, and then how many lines, answers, refusals by code and steps there are, if that is to be told.
-pub fn with_counts(
+pub fn with_counts<L: GrainLogic>(
     alloc: Global,
     telling: Telling,
     text: String,
     lines: usize,
-    served: &ServedInput<NewestKinds>,
+    served: &ServedInput<L>,
 ) -> Result<String, AllocError>
     ensures { IfOk result (λ told. string_bytes told ≡ string_bytes text ++ (if telling.summary
         then counts_text lines (codes_of served.now.refusals.items served.now.report.silo.whole.replies)

@@ -2,7 +2,7 @@
 
 ghost use Rattle.std.specs.Prelude.{◌≡◌, ◌<◌, ◌++◌, ℕ, List, [], IfOk, vec_len, vec_capacity};
 ghost use Rattle.std.specs.FinMap.{entries};
-ghost use Rattle.silo_model.specs.Opening.{opening, start_of};
+ghost use Rattle.silo_model.specs.Opening.{new_setup, nothing_kept, opening, start_of};
 ghost use Rattle.silo_model.specs.Whole.{shown_to};
 ghost use Rattle.silo_model.specs.Run.{restricted_to};
 ghost use Rattle.silo_model.specs.Journal.{LeadsTo};
@@ -76,8 +76,7 @@ impl<S: GrainStorage + Drop, L: GrainLogic + Drop> Silo<S, L> {
     ///
     /// Out of memory.
     pub fn new(alloc: Global, setup: Setup<S, L>) -> Result<Silo<S, L>, AllocError>
-        ensures setup { IfOk result (λ s. s.setup
-            ≡ record { tenants = setup.tenants; age = setup.age; ages = setup.ages; rows = S.rows setup.storage }) }
+        ensures setup { IfOk result (λ s. s.setup ≡ new_setup setup.tenants setup.age setup.ages (S.rows setup.storage)) }
         ensures opening { IfOk result (λ s. (s.whole ≡ opening s.setup) × (s.journal ≡ [])) }
         ensures failures { IfOk result (λ s. s.failures ≡ record { at_opening = S.failed setup.storage; now = S.failed setup.storage }) }
         ensures parts { IfOk result (λ s. (tenant : List ℕ) → shown_to tenant s.whole ≡ start_of s.setup tenant) }
@@ -96,8 +95,7 @@ impl<S: GrainStorage + Drop, L: GrainLogic + Drop> Silo<S, L> {
         setup: Setup<S, L>,
         seed: HashSeed,
     ) -> Result<Silo<S, L>, AllocError>
-        ensures setup { IfOk result (λ s. s.setup
-            ≡ record { tenants = setup.tenants; age = setup.age; ages = setup.ages; rows = S.rows setup.storage }) }
+        ensures setup { IfOk result (λ s. s.setup ≡ new_setup setup.tenants setup.age setup.ages (S.rows setup.storage)) }
         ensures opening { IfOk result (λ s. (s.whole ≡ opening s.setup) × (s.journal ≡ [])) }
         ensures failures { IfOk result (λ s. s.failures ≡ record { at_opening = S.failed setup.storage; now = S.failed setup.storage }) }
         ensures parts { IfOk result (λ s. (tenant : List ℕ) → shown_to tenant s.whole ≡ start_of s.setup tenant) }
@@ -222,7 +220,8 @@ impl<S: GrainStorage, L: GrainLogic> Silo<S, L> {
     pub fn journal(&self) -> &[Step]
         ensures steps { result.now ≡ self.now.journal }
 
-        // They lead from the opening to what the silo shows.
+        // They lead from the opening, of which nothing was kept, to what the silo shows.
+        ensures new { self.now.setup.kept ≡ nothing_kept }
         ensures leads { LeadsTo L.logic self.now.setup self.now.journal self.now.whole }
 
         // At every prefix of them, a turn that may write is the only open turn of its grain.

@@ -4,14 +4,15 @@ use Rattle.silo_model.proofs.Common.{Bool, Call, Change, Context, Deliver, Effec
 use Rattle.silo_model.proofs.Common.{Machine, MailboxFull, NoActivation, NoNumber, None, Ok, Option, Party, Poke, Refuse, Request, Result}
 use Rattle.silo_model.proofs.Common.{Row, RowFault, Send, Setup, Some, Status, Step, Store, Sweep, Tick, Tree, UnknownKind, ℕ, [], ap}
 use Rattle.silo_model.proofs.Common.{applied, arith, called, change_option, changed_at, cond, context_at, drop, effect_of, false}
-use Rattle.silo_model.proofs.Common.{first_from, fresh_account, gate, grain_cmp, grain_cmp_exact, grain_cmp_total, grain_of, keep}
-use Rattle.silo_model.proofs.Common.{kept_entries, kind_age, last_number, length, length-append, limits_of, machine_step, nat_le, nat_lt}
+use Rattle.silo_model.proofs.Common.{first_from, gate, grain_cmp, grain_cmp_exact, grain_cmp_total, grain_of, keep}
+use Rattle.silo_model.proofs.Common.{is_of, kept_entries, kind_age, last_number, length, length-append, limits_of, machine_step, nat_le, nat_lt}
 use Rattle.silo_model.proofs.Common.{none-some, option_and_then, option_map, owner_of, poke_settled, poked, put, refl, restricted_to}
 use Rattle.silo_model.proofs.Common.{row_poked, row_told, same_Some, same_text, shown_to, spent, stale, start_of, subst, sym, true}
 use Rattle.silo_model.proofs.Common.{with_request, with_sends}
 use Rattle.std.proofs.Common.{◌-◌}
 use Rattle.std.proofs.lemmas.Bool.{ltb-true}
 use Rattle.std.proofs.lemmas.List.Sums.{count_by-le-length, length-filter}
+use Rattle.finite_maps.proofs.Mapped.{len-mapped, mapped-part}
 use Rattle.finite_maps.proofs.Parts.{entries-part}
 use Rattle.std.specs.Prelude.{is_some}
 use Rattle.std.specs.FinMap as map
@@ -23,12 +24,14 @@ use Rattle.silo_model.specs.Calls.{admitted, call_settled, kind_gate, room}
 use Rattle.silo_model.specs.Idle.{is_kept}
 use Rattle.silo_model.specs.Effect.{found_at}
 use Rattle.silo_model.specs.Sends.{delivered, delivered_to, on_account, put_or}
+use Rattle.silo_model.specs.Opening.{account_at, awake}
 use Rattle.silo_model.specs.Step.{shared_step, step_by, swept}
 use Rattle.silo_model.proofs.Changes.{OfPutAt, changed_all}
 use Rattle.silo_model.proofs.Contexts.{shown_own}
 use Rattle.silo_model.proofs.EffectKinds.{Does, IsLeft, Role, asks, begins, closes, effect_kind, ends, enters, goes, goes_on, nobodys}
 use Rattle.silo_model.proofs.EffectKinds.{opens, stays, unloads}
 use Rattle.silo_model.proofs.Journals.{all_keep, parts_lead}
+use Rattle.silo_model.proofs.Opening.{account_limits, woken_of}
 use Rattle.silo_model.proofs.SharedSteps.{get-kept_there}
 use Rattle.silo_model.proofs.Tests.{on_found, on_test}
 use Rattle.silo_laws.specs.Limits.{LimitsHold}
@@ -295,19 +298,28 @@ module _ (limits : Limits) (may : 0 < limits.mailbox) where
         (λ _ none. absurd (none-some next none)) (λ e does is. subst Within (same_Some _ next is) (applied_within logic grain step e does)))
         h
 
-  start_within : (setup : Setup) (tenant : List ℕ) → limits_of setup.tenants tenant ≡ Some limits → Within (start_of setup tenant)
+  few_up : (setup : Setup) (tenant : List ℕ) → map.len (start_of setup tenant).entries ≡ map.len (map.retain_keys setup.kept.grains (is_of tenant))
   unfolding start_of
-  start_within setup tenant is = record {
-    known = λ a same. ap (λ (x : Account). x.limits) (sym (same_Some (fresh_account limits) a (sym (ap (option_map fresh_account) is) ∙ same)));
-    few = omega (arith, map.len-empty grain_cmp Entry);
-    short = λ g e found. absurd (none-some e (sym (map.get-empty grain_cmp g) ∙ found));
+  few_up setup tenant =
+      ap map.len (sym (mapped-part grain_cmp_total grain_cmp_exact awake setup.kept.grains (is_of tenant)))
+      ∙ len-mapped grain_cmp_total grain_cmp_exact awake (map.retain_keys setup.kept.grains (is_of tenant))
+
+  start_within : (setup : Setup) (tenant : List ℕ) → limits_of setup.tenants tenant ≡ Some limits → map.len (map.retain_keys setup.kept.grains (is_of tenant)) ≤ limits.activations
+      → Within (start_of setup tenant)
+  unfolding start_of
+  start_within setup tenant is few_kept = record {
+    known = λ a same.
+        ap (λ (x : Account). x.limits) (sym (same_Some (account_at setup.kept tenant limits) a (sym (ap (option_map (account_at setup.kept tenant)) is) ∙ same)))
+        ∙ account_limits tenant limits (map.get setup.kept.accounts tenant);
+    few = omega (arith, few_up setup tenant, few_kept);
+    short = λ g e found. let k = woken_of setup tenant g e found in subst (λ (x : Entry). length x.queue ≤ limits.mailbox) k.1 (omega arith);
   }
 
 pub limits_hold : LimitsHold
 unfolding shown_to
-limits_hold logic setup journal w tenant limits leads known may =
+limits_hold logic setup journal w tenant limits leads known may few_kept =
     let within =
     all_keep (machine_step logic) (Within limits may) (λ m next s holds step. step_within limits may m holds logic next s step)
-    (start_of setup tenant) (shown_to tenant w) (restricted_to tenant journal) (start_within limits may setup tenant known)
+    (start_of setup tenant) (shown_to tenant w) (restricted_to tenant journal) (start_within limits may setup tenant known few_kept)
     (parts_lead logic setup journal w tenant leads) in
     record { activations = within.few; mailboxes = λ g e own found. within.short g e (shown_own w tenant g own ∙ found) }

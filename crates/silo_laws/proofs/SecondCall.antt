@@ -11,7 +11,7 @@ use Rattle.silo_event.specs.declared.reply.Party.TheVariants as party
 use Rattle.silo_model.specs.FirstCall.{add_call, first_call}
 use Rattle.silo_model.proofs.AskSteps.{status_is}
 use Rattle.silo_model.proofs.ClockSteps.{tick_on}
-use Rattle.silo_model.proofs.Opening.{get-fresh_accounts, no_entry_of}
+use Rattle.silo_model.proofs.Opening.{clock_new, known_new, none_active, none_at}
 use Rattle.silo_laws.specs.Counting.{MayCount, second_call}
 use Rattle.silo_laws.specs.SecondCall.{SecondCallAnswered}
 use Rattle.silo_laws.specs.Status.{StatusTells, counts}
@@ -45,18 +45,13 @@ module _ (setup : Setup) (caller : Client) (id : ℕ) (g : Grain) (n : ℤ) (may
   abbrev pub counted : Account
   counted = record opened { count = 1 }
 
-  pub none_active : active_of (opening setup) caller.tenant ≡ 0
-  unfolding opening
-  none_active = ap map.len (no_entry_of caller.tenant) ∙ map.len-empty grain_cmp Entry
-
   abbrev pub first_whole : Whole
   first_whole = after_end (opening setup) opened caller id g n
 
   pub called_first : whole_step counters (opening setup) (Call caller id g (add_call n)) ≡ Some (after_call (opening setup) opened caller id g n)
-  unfolding opening
   called_first =
-      calls (opening setup) opened caller id g n (get-fresh_accounts setup.tenants caller.tenant ∙ ap (option_map fresh_account) may.known) may.own may.kind refl (map.get-empty grain_cmp g)
-      (ap (λ k. nat_lt k may.limits.activations) none_active ∙ lt-ltb 0 may.limits.activations may.activations)
+      calls (opening setup) opened caller id g n (known_new setup may.new caller.tenant may.limits may.known) may.own may.kind refl (none_at setup may.new g)
+      (ap (λ k. nat_lt k may.limits.activations) (none_active setup may.new caller.tenant) ∙ lt-ltb 0 may.limits.activations may.activations)
 
   abbrev ending : List Step
   ending = End g 1 ∷ []
@@ -77,8 +72,7 @@ module _ (setup : Setup) (caller : Client) (id : ℕ) (g : Grain) (n : ℤ) (may
       (then_done counters (after_begin w opened caller id g n) first_whole first_whole (End g 1) [] (ends w opened caller id g n) refl))))
 
   pub one_active : active_of first_whole caller.tenant ≡ 1
-  unfolding opening
-  one_active = one_more (opening setup) opened caller id g n may.own (map.get-empty grain_cmp g) ∙ ap (λ k. k + 1) none_active
+  one_active = one_more (opening setup) opened caller id g n may.own (none_at setup may.new g) ∙ ap (λ k. k + 1) (none_active setup may.new caller.tenant)
 
   module _ (fits : fits_64 n ≡ true) where
     pub up : IsUp first_whole counted caller g n
@@ -118,11 +112,10 @@ second_call_answered setup caller id second g n k may fits sum = (
 
 -- ---- a status
 
-zero_before : (n : ℕ) → nat_le 0 n ≡ true
-zero_before n = le-leb 0 n (omega arith)
+zero_before : (c n : ℕ) → c ≡ 0 → nat_le c n ≡ true
+zero_before c n zero = le-leb c n (omega (arith, zero))
 
 pub status_tells : StatusTells
-unfolding opening
 status_tells setup caller id second third g n k now may fits sum =
     let w = second_whole setup caller id g n may fits second k in
     let first = up setup caller id g n may fits in
@@ -130,7 +123,7 @@ status_tells setup caller id second third g n k now may fits sum =
     let a : Account = record (counted setup caller id g n may) { count = 2 } in
     let known = next_known (first_whole setup caller id g n may) (counted setup caller id g n may) caller second g n k first in
     let active = as_many (first_whole setup caller id g n may) (counted setup caller id g n may) caller second g n k first ∙ one_active setup caller id g n may in
-    let ticks = tick_on counters w now (zero_before now) in
+    let ticks = tick_on counters w now (zero_before w.clock now (clock_new setup may.new)) in
     let tells = status_is counters ticked caller third a known in
     let replies = both_told setup caller id g n may fits second k sum in (
       record ticked { replies = w.replies ++ told (party.Client caller third) (Ok (counts (active_of w caller.tenant) now 2)) },

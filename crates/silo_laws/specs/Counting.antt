@@ -6,12 +6,13 @@ use Rattle.tenant_gate.specs.declared.limits.Limits.{Limits}
 use Rattle.tenant_gate.specs.Table.{limits_of}
 use Rattle.silo_event.specs.declared.step.Step.{Step}
 use Rattle.silo_event.specs.declared.step.Step.TheVariants.{Begin, Call, End}
-use Rattle.silo_model.specs.Opening.{Setup}
+use Rattle.silo_model.specs.Opening.{Setup, nothing_kept}
 use Rattle.silo_model.specs.FirstCall.{add_call}
 
--- The client's tenant is known, and may have an activation and a request that waits; the grain is a counter of it, and no
+-- The silo is new. The client's tenant is known, and may have an activation and a request that waits; the grain is a counter of it, and no
 -- row of it is stored.
 pub record MayCount (setup : Setup) (caller : Client) (grain : Grain) : Type 0 where
+  pub new : setup.kept ≡ nothing_kept
   pub limits : Limits
   pub known : limits_of setup.tenants caller.tenant ≡ Some limits
   pub activations : 0 < limits.activations

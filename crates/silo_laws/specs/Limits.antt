@@ -17,7 +17,8 @@ pub record KeepsLimits (limits : Limits) (tenant : List ℕ) (w : Whole) : Type 
   pub activations : map.len (map.retain_keys w.entries (is_of tenant)) ≤ limits.activations
   pub mailboxes : (g : Grain) (e : Entry) → g.tenant ≡ tenant → map.get w.entries g ≡ Some e → length e.queue ≤ limits.mailbox
 
--- So it is of each tenant of the table, at every moment of a journal.
+-- So it is of each tenant of the table of which no more grains were kept than it may have, at every moment of a journal.
 abbrev pub LimitsHold : Type 0
 LimitsHold = (logic : Logic) (setup : Setup) (journal : List Step) (w : Whole) (tenant : List ℕ) (limits : Limits)
-    → LeadsTo logic setup journal w → limits_of setup.tenants tenant ≡ Some limits → 0 < limits.mailbox → KeepsLimits limits tenant w
+    → LeadsTo logic setup journal w → limits_of setup.tenants tenant ≡ Some limits → 0 < limits.mailbox
+    → map.len (map.retain_keys setup.kept.grains (is_of tenant)) ≤ limits.activations → KeepsLimits limits tenant w

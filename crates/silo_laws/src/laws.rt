@@ -19,7 +19,8 @@ pub fn second_call_answered()
 {}
 
 /// In every whole that a journal leads to, a tenant of the table has at most as many entries as it
-/// may have, and at each of its grains at most as many requests wait as may.
+/// may have, and at each of its grains at most as many requests wait as may; if no more of its grains
+/// were kept at the opening than it may have.
 pub fn limits_hold()
     ensures { LimitsHold }
 {}

@@ -8,6 +8,8 @@ use Rattle.silo_model.proofs.SharedSteps.{shared_leaves}
 use Rattle.silo_model.proofs.EffectKinds.{Does, Role, role_of}
 use Rattle.silo_model.proofs.Isolation.{by_owner, did_does, place_in}
 use Rattle.silo_model.proofs.Journals.{all_keep}
+use Rattle.silo_model.specs.Opening.{KeptGrain, awake}
+use Rattle.silo_model.proofs.Opening.{woken}
 
 -- what an owner sees at a grain is an entry there
 pub seen_there : (w : Whole) (owner : List ℕ) (g : Grain) (e : Entry) → (context_at (shown_to owner w) (Some g)).entry ≡ Some e → map.get w.entries g ≡ Some e
@@ -46,9 +48,13 @@ module _ (P : Entry → Type 0) where
         subst Each d.leaves
         (changed_all grain_cmp_total grain_cmp_exact (λ (g : Grain). P) w.entries place d.what.entry each (put_at place d.what.entry put)))
 
-    none_at_first : (setup : Setup) → Each (opening setup)
-    unfolding opening
-    none_at_first setup g e found = absurd (none-some e (sym (map.get-empty grain_cmp g) ∙ found))
+    -- it holds of each grain that was kept
+    abbrev pub OfKept : Setup → Type 0
+    OfKept setup = (g : Grain) (k : KeptGrain) → map.get setup.kept.grains g ≡ Some k → P (awake k)
 
-    pub journal_each : (setup : Setup) (journal : List Step) (w : Whole) → LeadsTo logic setup journal w → Each w
-    journal_each setup journal w leads = all_keep (whole_step logic) Each step_each (opening setup) w journal (none_at_first setup) leads
+    at_first : (setup : Setup) → OfKept setup → Each (opening setup)
+    unfolding opening
+    at_first setup kept g e found = let k = woken setup.kept.grains g e found in subst P k.2 (kept g k.0 k.1)
+
+    pub journal_each : (setup : Setup) (journal : List Step) (w : Whole) → OfKept setup → LeadsTo logic setup journal w → Each w
+    journal_each setup journal w kept leads = all_keep (whole_step logic) Each step_each (opening setup) w journal (at_first setup kept) leads

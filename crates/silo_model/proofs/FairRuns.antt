@@ -10,29 +10,34 @@ use Rattle.std.proofs.lemmas.Map.Keys.{IsDistinct-cons}
 use Rattle.finite_maps.proofs.Sums.{sum_map}
 use Rattle.silo_event.specs.declared.reply.Party.TheVariants as party
 use Rattle.silo_model.specs.Settled.{RunsSettle, Settled, asks, is_client_with}
-use Rattle.silo_model.proofs.Opening.{replay_is_run}
+use Rattle.silo_model.specs.Opening.{awake}
+use Rattle.silo_model.proofs.Opening.{replay_is_run, woken_of}
+use Rattle.silo_model.proofs.Common.{grain_cmp_total, nat_cmp}
+use Rattle.finite_maps.proofs.Totals.{total_alike}
+use Rattle.finite_maps.proofs.Sums.{sum_zero}
 use Rattle.silo_model.proofs.Runs.{machine_after}
 use Rattle.silo_model.proofs.Tests.{on_found}
-use Rattle.silo_model.proofs.Fair.{held, numbered, one_if, pend}
+use Rattle.silo_model.proofs.Fair.{IsFairEntry, held, idle_entry, no_turns, numbered, one_if, pend}
 use Rattle.silo_model.proofs.Moves.{Quiet, asked_by, replied, sent}
 use Rattle.silo_model.proofs.StepMoves.{IsFairMachine, machine_moves}
 
 -- ---- the start
 
-no_entry_pends : (f : Request → ℕ) → pend f (map.empty {X = Entry} {R = grain_cmp}) ≡ 0
-no_entry_pends f = total-none (held f) map.empty (map.len-empty grain_cmp Entry)
+-- nothing waits and nothing is open
+none_held : (setup : Setup) (t : List ℕ) (f : Request → ℕ) → pend f (start_of setup t).entries ≡ 0
+none_held setup t f = total_alike grain_cmp_total (held f) (λ _. 0) (start_of setup t).entries (λ g e found. let k = woken_of setup t g e found in subst (λ x. held f x ≡ 0) k.1 (ap (λ n. 0 + n) (no_turns f))) ∙ sum_zero (map.values (start_of setup t).entries)
 
 pub start_fair : (logic : Logic) (setup : Setup) (t : List ℕ) → IsFairMachine logic (start_of setup t)
 unfolding start_of
 start_fair logic setup t = record {
-  each = λ g e found. absurd (none-some e (sym (map.get-empty grain_cmp g) ∙ found));
-  once = λ n. omega (arith, no_entry_pends (numbered n));
-  unused = λ n above. no_entry_pends (numbered n);
+  each = λ g e found. let k = woken_of setup t g e found in subst (IsFairEntry logic g) k.1 (idle_entry logic g (awake k.0) (map.len-empty nat_cmp Request));
+  once = λ n. omega (arith, none_held setup t (numbered n));
+  unused = λ n above. none_held setup t (numbered n);
 }
 
 pub start_balance : (setup : Setup) (t : List ℕ) (w : Party → ℕ) → replied w (start_of setup t).replies + pend (sent w) (start_of setup t).entries ≡ 0
 unfolding start_of
-start_balance setup t w = omega (arith, no_entry_pends (sent w))
+start_balance setup t w = omega (arith, none_held setup t (sent w))
 
 -- ---- runs
 

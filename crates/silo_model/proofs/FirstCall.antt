@@ -17,7 +17,8 @@ use Rattle.silo_model.specs.FirstCall.{FirstCallAnswered, add_call, first_call}
 use Rattle.silo_model.proofs.CallSteps.{call_new, next_request}
 use Rattle.silo_model.proofs.EntrySteps.{activate_waiting, begin_first, load_loading}
 use Rattle.silo_model.proofs.Counters.{end_counter}
-use Rattle.silo_model.proofs.Opening.{get-fresh_accounts, no_entry_of}
+use Rattle.silo_model.specs.Opening.{nothing_kept}
+use Rattle.silo_model.proofs.Opening.{known_new, none_active, none_at}
 use Rattle.silo_model.proofs.Fair.{may_open_alone}
 
 then_done : (logic : Logic) (w next after : Whole) (s : Step) (steps : List Step) → whole_step logic w s ≡ Some next → all_done logic next steps ≡ Some after → all_done logic w (s ∷ steps) ≡ Some after
@@ -113,18 +114,13 @@ module _ (w : Whole) (a : Account) (caller : Client) (id : ℕ) (g : Grain) (n :
   pub reply_is : map.get w.rows g ≡ None → fits_64 n ≡ true → after_end.replies ≡ w.replies ++ told (party.Client caller id) (Ok (integer n))
   reply_is none fits = ap (λ o. w.replies ++ told (party.Client caller id) (outcome_of o)) (first_outcome g.kind state_loaded n (ap (content_or (counters.empty g.kind)) none ∙ empty_counter g.kind) fits)
 
-none_active : (setup : Setup) (t : List ℕ) → active_of (opening setup) t ≡ 0
-unfolding opening
-none_active setup t = ap map.len (no_entry_of t) ∙ map.len-empty grain_cmp Entry
-
 -- where it leads, entry by entry: the entry is ready, with no request that waits and no turn that is open
 pub first_call_leads : (setup : Setup) (limits : Limits) (caller : Client) (id : ℕ) (g : Grain) (n : ℤ)
-    → limits_of setup.tenants caller.tenant ≡ Some limits → 0 < limits.activations → g.tenant ≡ caller.tenant → g.kind ≡ codes "counter"
+    → setup.kept ≡ nothing_kept → limits_of setup.tenants caller.tenant ≡ Some limits → 0 < limits.activations → g.tenant ≡ caller.tenant → g.kind ≡ codes "counter"
     → LeadsTo counters setup (first_call caller id g n) (after_end (opening setup) (fresh_account limits) caller id g n)
-unfolding opening
-first_call_leads setup limits caller id g n known may own kind =
-    all_five (opening setup) (fresh_account limits) caller id g n (get-fresh_accounts setup.tenants caller.tenant ∙ ap (option_map fresh_account) known) own (ap counters.knows kind ∙ knows_counter) refl (map.get-empty grain_cmp g)
-    (ap (λ k. nat_lt k limits.activations) (none_active setup caller.tenant) ∙ lt-ltb 0 limits.activations may)
+first_call_leads setup limits caller id g n new known may own kind =
+    all_five (opening setup) (fresh_account limits) caller id g n (known_new setup new caller.tenant limits known) own (ap counters.knows kind ∙ knows_counter) refl (none_at setup new g)
+    (ap (λ k. nat_lt k limits.activations) (none_active setup new caller.tenant) ∙ lt-ltb 0 limits.activations may)
 
 pub first_call_replies : (setup : Setup) (limits : Limits) (caller : Client) (id : ℕ) (g : Grain) (n : ℤ) → map.get setup.rows g ≡ None → fits_64 n ≡ true
     → (after_end (opening setup) (fresh_account limits) caller id g n).replies ≡ told (party.Client caller id) (Ok (integer n))
@@ -132,5 +128,5 @@ unfolding opening
 first_call_replies setup limits caller id g n none fits = reply_is (opening setup) (fresh_account limits) caller id g n none fits
 
 pub first_call_answered : FirstCallAnswered
-first_call_answered setup limits caller id g n known may own kind none fits =
-    (after_end (opening setup) (fresh_account limits) caller id g n, first_call_leads setup limits caller id g n known may own kind, first_call_replies setup limits caller id g n none fits)
+first_call_answered setup limits caller id g n new known may own kind none fits =
+    (after_end (opening setup) (fresh_account limits) caller id g n, first_call_leads setup limits caller id g n new known may own kind, first_call_replies setup limits caller id g n none fits)

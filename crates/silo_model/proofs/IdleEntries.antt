@@ -15,25 +15,24 @@ use Rattle.silo_model.proofs.Leaving.{idle_parts}
 pub idle_is : (e : Entry) → IsIdle e → is_idle e ≡ true
 idle_is e idle = λ i. is_ready (idle.phase i) && (length (idle.nothing_waits i) == 0) && eq-eqb (map.len e.turns) 0 idle.none_open i
 
+pub idle_from : (e : Entry) → is_idle e ≡ true → IsIdle e
+idle_from e idle = by_phase e.phase refl parts.0
+  where
+    parts : (is_ready e.phase ≡ true) × (e.queue ≡ []) × (map.len e.turns ≡ 0)
+    parts = idle_parts e idle
+
+    by_phase : (p : Phase) → e.phase ≡ p → is_ready p ≡ true → IsIdle e
+    by_phase (ready state version) is h = record { state = state; version = version; phase = is; nothing_waits = parts.1; none_open = parts.2 }
+    by_phase _ is h = absurd (true≢false (sym h))
+
 module _ (clock age : ℕ) (e : Entry) where
   idle_is_due : IsIdle e → due_moment age e ≤ clock → is_due clock age e ≡ true
   idle_is_due idle come = and_from (is_idle e) (nat_le (due_moment age e) clock) (idle_is e idle) (le-leb (due_moment age e) clock come)
 
   due_is_idle : is_due clock age e ≡ true → IsIdle e × (due_moment age e ≤ clock)
-  due_is_idle due = by_phase e.phase refl parts.0
-    where
-      both : (is_idle e ≡ true) × (nat_le (due_moment age e) clock ≡ true)
-      both = and_parts (is_idle e) (nat_le (due_moment age e) clock) due
-
-      parts : (is_ready e.phase ≡ true) × (e.queue ≡ []) × (map.len e.turns ≡ 0)
-      parts = idle_parts e both.0
-
-      by_phase : (p : Phase) → e.phase ≡ p → is_ready p ≡ true → IsIdle e × (due_moment age e ≤ clock)
-      by_phase (ready state version) is h = (
-        record { state = state; version = version; phase = is; nothing_waits = parts.1; none_open = parts.2 },
-        leb-true (due_moment age e) clock both.1,
-      )
-      by_phase _ is h = absurd (true≢false (sym h))
+  due_is_idle due =
+      let both = and_parts (is_idle e) (nat_le (due_moment age e) clock) due in
+      (idle_from e both.0, leb-true (due_moment age e) clock both.1)
 
 -- ---- the sweep
 

@@ -51,3 +51,6 @@ pub mod QuietCounts
 pub mod Sends
 pub mod OwnSends
 pub mod Order
+pub mod Framed
+pub mod KeptLimits
+pub mod Segments

@@ -71,7 +71,7 @@ module _ (age : ℕ) (w : Whole) (one : w.age ≡ age) (none : w.ages ≡ []) (p
   }
 
 pub one_age_counts : OneAgeCounts
-one_age_counts logic keeps_same setup journal w leads =
-    let plain = journal_each IsPlain logic (puts_plain logic keeps_same) setup journal w leads in
+one_age_counts logic keeps_same setup journal w none_stays leads =
+    let plain = journal_each IsPlain logic (puts_plain logic keeps_same) setup journal w (λ g k found. record { until = none_stays g k found; awake = refl }) leads in
     let ages = journal_ages logic setup journal w leads in
     (plain, λ none. (whole_swept w, sweep_is logic w, leaves_younger setup.age w ages.0 (ages.1 ∙ none) plain))

@@ -15,6 +15,8 @@ use Rattle.silo_model.proofs.Tests.{on_test}
 use Rattle.silo_model.proofs.QuietCounts.{shown_entry}
 use Rattle.silo_model.proofs.SharedSteps.{get-kept_there}
 use Rattle.silo_model.proofs.TurnMaps.{Turns, get-remove_open}
+use Rattle.silo_model.specs.Opening.{KeptGrain, awake}
+use Rattle.silo_model.proofs.Opening.{woken_of}
 
 -- ---- requests up to a number
 
@@ -167,9 +169,14 @@ stays_ordered logic m new s ordered =
     let place = grain_of m.account s in
     done_at logic m s ordered e (by_kind logic (context_at m place) s (sees logic m s ordered place) (role_of s) place e does))
 
+awake_ordered : (n : ℕ) (k : KeptGrain) → IsOrdered n (awake k)
+awake_ordered n k = record { queue = tt; counted = tt; turns = λ m turn found. absurd (none-some turn (sym (map.get-empty nat_cmp m) ∙ found)) }
+
 starts_ordered : (setup : Setup) (tenant : List ℕ) → IsOrderedMachine (start_of setup tenant)
 unfolding start_of
-starts_ordered setup tenant g e found = absurd (none-some e (sym (map.get-empty grain_cmp g) ∙ found))
+starts_ordered setup tenant g e found =
+    let k = woken_of setup tenant g e found in
+    subst (IsOrdered (count_of (start_of setup tenant).account)) k.1 (awake_ordered (count_of (start_of setup tenant).account) k.0)
 
 pub begin_in_order : BeginInOrder
 begin_in_order logic setup journal w g e leads found =

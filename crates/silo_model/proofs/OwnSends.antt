@@ -9,7 +9,11 @@ use Rattle.std.proofs.Math.Bool.{or-false}
 use Rattle.silo_model.specs.Todo.{OwnSends, SendsAreOwn}
 use Rattle.silo_model.proofs.Changes.{get-change_other, get-change_same}
 use Rattle.silo_model.proofs.Isolation.{Did, did, did_does, shared_by}
-use Rattle.silo_model.proofs.Opening.{get-fresh_accounts}
+use Rattle.silo_model.specs.Opening.{Kept, KeptAccount, account_at, account_by, own_sends}
+use Rattle.silo_model.proofs.Opening.{get-opening_accounts}
+use Rattle.silo_model.proofs.Common.{◌∷◌, [], cond, same_text, same_text_decides}
+use Rattle.silo_model.specs.Machine.{Send}
+use Rattle.silo_model.proofs.Tests.{on_test}
 use Rattle.silo_model.proofs.Journals.{all_keep}
 use Rattle.silo_model.proofs.Tests.{either_way}
 use Rattle.silo_model.proofs.Sends.{Less, does_less, has_sent}
@@ -77,13 +81,31 @@ module _ (logic : Logic) (w after : Whole) (s : Step) (step : whole_step logic w
 
 -- ---- where a silo opens
 
-pub none_there : (g : Grain) (o : Option Account) (limits : Option Limits) → o ≡ option_map fresh_account limits → is_some (delivery_of g o) ≡ true → false ≡ true
-none_there g o None is h = ap (λ x. is_some (delivery_of g x)) (sym is) ∙ h
-none_there g o (Some l) is h = ap (λ x. is_some (delivery_of g x)) (sym is) ∙ h
+-- a send that is found among a tenant's own has a source of that tenant
+own_first : (t : List ℕ) (g : Grain) (sends : List Send) → is_some (first_from g (own_sends t sends)) ≡ true → g.tenant ≡ t
+own_first t g [] = λ h. absurd (true≢false (sym h))
+own_first t g (s ∷ sends) =
+    on_test (λ b. is_some (first_from g (cond b (s ∷ own_sends t sends) (own_sends t sends))) ≡ true → g.tenant ≡ t) (same_text s.source.tenant t)
+    (λ own.
+    on_test (λ c. is_some {T = Send × List Send} (cond c (Some (s, own_sends t sends)) (option_map (λ found. (found.0, s ∷ found.1)) (first_from g (own_sends t sends)))) ≡ true → g.tenant ≡ t)
+    (grain_eq s.source g)
+    (λ is _. ap (λ (x : Grain). x.tenant) (sym ((grain_eq_decides s.source g).0 is)) ∙ (same_text_decides s.source.tenant t).0 own)
+    (λ _ h. own_first t g sends (sym (is_some-option_map (λ (found : Send × List Send). (found.0, s ∷ found.1)) (first_from g (own_sends t sends))) ∙ h)))
+    (λ _ h. own_first t g sends h)
+
+own_there : (t : List ℕ) (g : Grain) (limits : Limits) (k : Option KeptAccount) → is_some (delivery_of g (Some (account_by t limits k))) ≡ true → g.tenant ≡ t
+own_there t g limits None h = absurd (true≢false (sym h))
+own_there t g limits (Some k) h = own_first t g k.sends (sym (is_some-option_map _ (first_from g (own_sends t k.sends))) ∙ h)
+
+own_by_table : (t : List ℕ) (g : Grain) (kept : Kept) (o : Option Account) (limits : Option Limits) → o ≡ option_map (account_at kept t) limits
+    → is_some (delivery_of g o) ≡ true → g.tenant ≡ t
+own_by_table t g kept o None is h = absurd (true≢false (sym (ap (λ x. is_some (delivery_of g x)) (sym is) ∙ h)))
+own_by_table t g kept o (Some l) is h = own_there t g l (map.get kept.accounts t) (ap (λ x. is_some (delivery_of g x)) (sym is) ∙ h)
 
 own_at_opening : (setup : Setup) → OwnSends (opening setup)
 unfolding opening
-own_at_opening setup tenant g some = absurd (true≢false (sym (none_there g (map.get (opening setup).accounts tenant) (limits_of setup.tenants tenant) (get-fresh_accounts setup.tenants tenant) some)))
+own_at_opening setup tenant g some =
+    own_by_table tenant g setup.kept (map.get (opening setup).accounts tenant) (limits_of setup.tenants tenant) (get-opening_accounts setup.tenants setup.kept tenant) some
 
 pub sends_are_own : SendsAreOwn
 sends_are_own logic setup journal w leads =

@@ -14,6 +14,7 @@ use Rattle.silo_model.proofs.Leaving.{idle_parts, resting_goes}
 use Rattle.silo_model.proofs.IdleEntries.{idle_is}
 use Rattle.silo_model.proofs.EffectKinds.{IsEntered, IsLeft, accepts, closes, goes, goes_on, opens, stays}
 use Rattle.silo_model.proofs.EachEntry.{Puts, journal_each}
+use Rattle.silo_model.specs.Opening.{awake}
 use Rattle.silo_model.proofs.TurnSteps.{end_turn}
 use Rattle.silo_model.proofs.SavedStates.{loads_row}
 
@@ -65,7 +66,7 @@ puts_used logic s step _ _ _ old _ = tt
 
 pub resting_is_used : RestingIsUsed
 resting_is_used logic setup journal w grain e leads found rests idle =
-    true≢false (sym (and_from e.resting (is_idle e) rests (idle_is e idle)) ∙ journal_each IsUsed logic (puts_used logic) setup journal w leads grain e found)
+    true≢false (sym (and_from e.resting (is_idle e) rests (idle_is e idle)) ∙ journal_each IsUsed logic (puts_used logic) setup journal w (λ g k _. used_if_awake (awake k) refl) leads grain e found)
 
 -- ---- the end of a turn that says something of the activation
 

@@ -6,7 +6,7 @@ use Rattle.request_codec.specs.Tree.{Tree}
 use Rattle.idle_collector.specs.Ages.{kind_age}
 use Rattle.silo_event.specs.declared.step.Step.TheVariants.{Sweep}
 use Rattle.grain_logic.specs.Logic.{Logic}
-use Rattle.silo_model.specs.Machine.{Entry, ready}
+use Rattle.silo_model.specs.Machine.{Entries, Entry, ready}
 use Rattle.silo_model.specs.Idle.{due_moment}
 use Rattle.silo_model.specs.Whole.{Whole, whole_step}
 
@@ -17,6 +17,10 @@ pub record IsIdle (e : Entry) : Type 0 where
   pub phase : e.phase ≡ ready state version
   pub nothing_waits : e.queue ≡ []
   pub none_open : map.len e.turns ≡ 0
+
+-- Each entry is ready, no request waits, and no turn is open.
+abbrev pub AllIdle : Entries → Type 0
+AllIdle entries = (grain : Grain) (e : Entry) → map.get entries grain ≡ Some e → IsIdle e
 
 -- What a sweep leaves: no idle entry whose due moment has come, and every other as it was; and every row.
 pub record LeavesUsed (before after : Whole) : Type 0 where

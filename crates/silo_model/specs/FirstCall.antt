@@ -14,7 +14,7 @@ use Rattle.silo_event.specs.declared.step.Step.TheVariants.{Call, Activate, Load
 use Rattle.silo_event.specs.declared.reply.Party.TheVariants as party
 use Rattle.silo_model.specs.Calls.{told}
 use Rattle.silo_model.specs.Whole.{Whole}
-use Rattle.silo_model.specs.Opening.{Setup}
+use Rattle.silo_model.specs.Opening.{Setup, nothing_kept}
 use Rattle.silo_model.specs.Journal.{LeadsTo}
 
 -- `add` of `{"by": n}`
@@ -25,10 +25,10 @@ add_call n = asks (codes "add") (map (field (codes "by") (integer n) no_fields))
 abbrev pub first_call : Client → ℕ → Grain → ℤ → List Step
 first_call caller id grain n = Call caller id grain (add_call n) ∷ Activate grain ∷ Load grain false ∷ Begin grain ∷ End grain 1 ∷ []
 
--- If a client that is known, and may have an activation, adds to a counter of its tenant of which no row is stored,
+-- Where nothing was kept: if a client that is known, and may have an activation, adds to a counter of its tenant of which no row is stored,
 -- all five steps are done, and the number is the one reply.
 abbrev pub FirstCallAnswered : Type 0
 FirstCallAnswered = (setup : Setup) (limits : Limits) (caller : Client) (id : ℕ) (grain : Grain) (n : ℤ)
-    → limits_of setup.tenants caller.tenant ≡ Some limits → 0 < limits.activations → grain.tenant ≡ caller.tenant
-    → grain.kind ≡ codes "counter" → finite.get setup.rows grain ≡ None → fits_64 n ≡ true
+    → setup.kept ≡ nothing_kept → limits_of setup.tenants caller.tenant ≡ Some limits → 0 < limits.activations
+    → grain.tenant ≡ caller.tenant → grain.kind ≡ codes "counter" → finite.get setup.rows grain ≡ None → fits_64 n ≡ true
     → (w : Whole) × LeadsTo counters setup (first_call caller id grain n) w × (w.replies ≡ told (party.Client caller id) (Ok (integer n)))

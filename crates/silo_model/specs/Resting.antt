@@ -15,7 +15,7 @@ use Rattle.silo_model.specs.Machine.{Entry, Request, loading, ready}
 use Rattle.silo_model.specs.Turns.{plan_of}
 use Rattle.silo_model.specs.Saved.{touches_row}
 use Rattle.silo_model.specs.Whole.{Whole, whole_step}
-use Rattle.silo_model.specs.Opening.{Setup}
+use Rattle.silo_model.specs.Opening.{Kept, KeptGrain, Setup}
 use Rattle.silo_model.specs.Journal.{all_done, LeadsTo}
 use Rattle.silo_model.specs.Collected.{IsIdle}
 
@@ -104,9 +104,14 @@ pub record LeavesYounger (age : ℕ) (before after : Whole) : Type 0 where
       → map.get after.entries grain ≡ Some e
   pub rows : after.rows ≡ before.rows
 
--- Where no plan says anything of the activation, no entry ever stays or rests, so that no close takes one; and where no
--- kind has an age of its own, a sweep takes what was idle for the one age, and nothing else.
+-- No grain was kept that stays.
+abbrev pub KeptNoneStays : Kept → Type 0
+KeptNoneStays kept = (grain : Grain) (k : KeptGrain) → map.get kept.grains grain ≡ Some k → k.until ≡ 0
+
+-- Where no plan says anything of the activation, and no grain was kept that stays, no entry ever stays or rests, so that no close
+-- takes one; and where no kind has an age of its own, a sweep takes what was idle for the one age, and nothing else.
 abbrev pub OneAgeCounts : Type 0
-OneAgeCounts = (logic : Logic) → KeepsSame logic → (setup : Setup) (journal : List Step) (w : Whole) → LeadsTo logic setup journal w
+OneAgeCounts = (logic : Logic) → KeepsSame logic → (setup : Setup) (journal : List Step) (w : Whole)
+    → KeptNoneStays setup.kept → LeadsTo logic setup journal w
     → ((grain : Grain) (e : Entry) → map.get w.entries grain ≡ Some e → StaysUntil 0 e)
     × (setup.ages ≡ [] → (swept : Whole) × (whole_step logic w Sweep ≡ Some swept) × LeavesYounger setup.age w swept)

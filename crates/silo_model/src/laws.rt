@@ -15,6 +15,7 @@ ghost use Rattle.silo_model.specs.Replies.{RepliesInOrder};
 ghost use Rattle.silo_model.specs.Resting.{OneAgeCounts, RestingGoes, RestingIsUsed, StayingGoes, StayingStays};
 ghost use Rattle.silo_model.specs.Saved.{SavedComesBack};
 ghost use Rattle.silo_model.specs.Sent.{SentArrives};
+ghost use Rattle.silo_model.specs.Segments.{ResumesAsItWas, SegmentsLead};
 ghost use Rattle.silo_model.specs.Settled.{JournalsSettle, RunsSettle};
 ghost use Rattle.silo_model.specs.Stores.{StoresAtOneRow};
 ghost use Rattle.silo_model.specs.Todo.{SendsAreOwn, WorkIsDone};
@@ -220,4 +221,16 @@ pub fn quiet_by_counts()
 #[tactic(auto, using(crate::proofs::Order::begin_in_order))]
 pub fn begin_in_order()
     ensures { BeginInOrder }
+{}
+
+/// A silo that goes on from what is kept of it opens as what it was, but for its replies.
+#[tactic(auto, using(crate::proofs::Segments::resumes_as_it_was))]
+pub fn resumes_as_it_was()
+    ensures { ResumesAsItWas }
+{}
+
+/// Where one journal leads, and another leads on from what is kept there, both lead, one behind the other.
+#[tactic(auto, using(crate::proofs::Segments::segments_lead))]
+pub fn segments_lead()
+    ensures { SegmentsLead }
 {}

@@ -22,7 +22,7 @@ use Rattle.tenant_gate.specs.Table.{Table}
 use Rattle.clap.specs.Words.{Text}
 use Rattle.line_protocol.specs.declared.written.WriterCalls.{WriterCalls}
 use Rattle.line_commands.specs.Answering.{WritesJournalsAtMost}
-use Rattle.command_parts.specs.Setups.{setup_of}
+use Rattle.silo_program.specs.Program.{program_start}
 use Rattle.silo_words.specs.Ages.{IsWhyNoAges, NamesAges}
 use Rattle.silo_words.specs.Tenants.{IsReason, NameTenants}
 use Rattle.silo_words.specs.Words.{AskForAnswering, AskForAudit, AskForData, AskForMigration, AskForServing, AskForSteps}
@@ -41,7 +41,7 @@ use Rattle.journal_commands.specs.Migrating.{IsMigrationFault}
 
 module _ (words : List Text) (files : FileClaims) (log : LogClaims) (from left : Option (List ℕ)) (workers age : ℕ) (given : Option Text) (tenants : Table) (ages : Ages) (arguments : List Text) where
   -- of what the words ask for
-  pub files_left : (journal : Option Text) (telling : Telling) → AskForServing words workers age given journal telling arguments → NameTenants arguments tenants × NamesAges given ages → WritesJournalAtMost (setup_of tenants age ages) files journal from left
+  pub files_left : (journal : Option Text) (telling : Telling) → AskForServing words workers age given journal telling arguments → NameTenants arguments tenants × NamesAges given ages → WritesJournalAtMost (program_start tenants age ages) files journal from left
       → LeavesFiles words files log from left
   files_left None telling asked named same = inl same
   files_left (Some path) telling asked named is =
@@ -151,7 +151,7 @@ module _ (words : List Text) (files : FileClaims) (log : LogClaims) (from left :
 
 module _ (words : List Text) (files : FileClaims) (log : LogClaims) (from left : Option (List ℕ)) (age : ℕ) (given : Option Text) (sends : ℕ) (tenants : Table) (ages : Ages) (arguments : List Text) where
   -- of what the words ask for
-  pub answered_left : (journal : Option Text) → AskForAnswering words age given sends journal arguments → NameTenants arguments tenants × NamesAges given ages → WritesJournalsAtMost (setup_of tenants age ages) sends files journal from
+  pub answered_left : (journal : Option Text) → AskForAnswering words age given sends journal arguments → NameTenants arguments tenants × NamesAges given ages → WritesJournalsAtMost (program_start tenants age ages) sends files journal from
       → LeavesFiles words files log from left
   answered_left None asked named same = inl same
   answered_left (Some path) asked named is =
@@ -170,7 +170,7 @@ module _ (words : List Text) (files : FileClaims) (log : LogClaims) (from left :
 
 module _ (words : List Text) (files : FileClaims) (log : LogClaims) (from left : Option (List ℕ)) (age : ℕ) (given : Option Text) (sends : ℕ) (folder : Text) (sync : Bool) (tenants : Table) (ages : Ages) (arguments : List Text) where
   -- what the words ask for lasts
-  pub folder_left : AskForData words age given sends folder sync arguments → NameTenants arguments tenants × NamesAges given ages → (sync ≡ true → DataLasts (setup_of tenants age ages) sends log) → LeavesFiles words files log from left
+  pub folder_left : AskForData words age given sends folder sync arguments → NameTenants arguments tenants × NamesAges given ages → (sync ≡ true → DataLasts (program_start tenants age ages) sends log) → LeavesFiles words files log from left
   folder_left asked named lasts = inr (inr (inr (record {
     tenants = tenants;
     age = age;
@@ -196,8 +196,8 @@ module _ (words : List Text) (files : FileClaims) (log : LogClaims) (from left :
     lacks_memory reading writing why is none = subst (λ (c : Cause). IsFolderFault words files log (fault.Failed c) from left reading before after writing) (sym is) (inl (none.0, none.1))
 
     -- all was answered
-    pub folder_answered : AskForData words age given sends folder sync arguments → NameTenants arguments tenants × NamesAges given ages → AnswersData (setup_of tenants age ages) sends log from left before after
-        → (sync ≡ true → HasInput (setup_of tenants age ages) sends log from) → AnswersInFolder words log from left before after
+    pub folder_answered : AskForData words age given sends folder sync arguments → NameTenants arguments tenants × NamesAges given ages → AnswersData (program_start tenants age ages) sends log from left before after
+        → (sync ≡ true → HasInput (program_start tenants age ages) sends log from) → AnswersInFolder words log from left before after
     folder_answered asked named answered has = record {
       tenants = tenants;
       age = age;
@@ -212,7 +212,7 @@ module _ (words : List Text) (files : FileClaims) (log : LogClaims) (from left :
 
     -- it wasn't, and this is said
     pub folder_failed : (reading : Reading) (writing : WriterCalls) → AskForData words age given sends folder sync arguments → NameTenants arguments tenants × NamesAges given ages → (why : DataFault) (told : ProgramFault) → IsDataFault why told
-        → DataFailsBy (setup_of tenants age ages) sends log why from left reading before after → IsFolderFault words files log told from left reading before after writing
+        → DataFailsBy (program_start tenants age ages) sends log why from left reading before after → IsFolderFault words files log told from left reading before after writing
     folder_failed reading writing asked named (data_fault.Failed why) told is fails = subst (λ (f : ProgramFault). IsFolderFault words files log f from left reading before after writing) (sym is)
         (inr (record { tenants = tenants; age = age; ages = ages; sends = sends; folder = folder; sync = sync; asked = keeping asked named; failed = fails }))
     folder_failed reading writing asked named data_fault.OtherWords (fault.Failed why) is fails = lacks_memory reading writing why is (unbegun fails)
@@ -233,7 +233,7 @@ module _ (words : List Text) (files : FileClaims) (log : LogClaims) (from left :
 module _ (words : List Text) (files : FileClaims) (telling : Telling) (from left before after : Option (List ℕ)) where
   -- of what the words ask for
   pub input_served : (workers age : ℕ) (given journal : Option Text) (tenants : Table) (ages : Ages) (arguments : List Text) (text : List ℕ) → AskForServing words workers age given journal telling arguments
-      → NameTenants arguments tenants × NamesAges given ages → ServesLanes (setup_of tenants age ages) files journal telling from left before after text → ServesInput words files telling from left before after text
+      → NameTenants arguments tenants × NamesAges given ages → ServesLanes (program_start tenants age ages) files journal telling from left before after text → ServesInput words files telling from left before after text
   input_served workers age given journal tenants ages arguments text asked named served = record {
     workers = workers;
     tenants = tenants;

@@ -7,7 +7,7 @@ use Rattle.idle_collector.specs.Ages.{Ages}
 use Rattle.line_protocol.specs.Reading.{Reading}
 use Rattle.line_protocol.specs.declared.written.WriterCalls.{WriterCalls}
 use Rattle.line_protocol.specs.declared.fault.LineFault.{LineFault}
-use Rattle.command_parts.specs.Setups.{setup_of}
+use Rattle.silo_program.specs.Program.{program_start}
 use Rattle.silo_words.specs.Words.{AreRefused, AskForAnswering, AskForAudit, AskForData, AskForHelp, AskForMigration, AskForNothing}
 use Rattle.silo_words.specs.Words.{AskForServing, AskForSteps, AskForVersion, EndsWithExample, nothing_told}
 use Rattle.silo_words.specs.declared.task.Telling.{Telling}
@@ -168,7 +168,7 @@ pub record ServesSteps (words : List Text) (from left before after : Option (Lis
   pub age : ℕ
   pub ages : Ages
   pub asked : AskForTenants words tenants age ages
-  pub answered : AnswersFrom (setup_of tenants age ages) from left before after
+  pub answered : AnswersFrom (program_start tenants age ages) from left before after
 
 -- The words name tenants, and the steps of the input were answered for them up to this fault.
 pub record FailsInSteps (words : List Text) (why : Cause) (from left : Option (List ℕ)) (reading : Reading)
@@ -179,7 +179,7 @@ pub record FailsInSteps (words : List Text) (why : Cause) (from left : Option (L
   pub asked : AskForTenants words tenants age ages
   pub fault : LineFault
   pub is : why ≡ cause_of fault
-  pub stopped : StopsFrom (setup_of tenants age ages) fault from left reading before after writing
+  pub stopped : StopsFrom (program_start tenants age ages) fault from left reading before after writing
 
 -- ---- lines are served
 
@@ -192,7 +192,7 @@ pub record ServesInput (words : List Text) (files : FileClaims) (telling : Telli
   pub ages : Ages
   pub journal : Option Text
   pub asked : AskForThreads words workers tenants age ages journal telling
-  pub served : ServesLanes (setup_of tenants age ages) files journal telling from left before after text
+  pub served : ServesLanes (program_start tenants age ages) files journal telling from left before after text
 
 -- The words name tenants, and serving the lines of the input for them failed.
 pub record FailsInServing (words : List Text) (files : FileClaims) (why : Cause) (from left : Option (List ℕ)) (reading : Reading)
@@ -204,7 +204,7 @@ pub record FailsInServing (words : List Text) (files : FileClaims) (why : Cause)
   pub journal : Option Text
   pub telling : Telling
   pub asked : AskForThreads words workers tenants age ages journal telling
-  pub failed : ServingFailsBy (setup_of tenants age ages) files journal why from left reading.calls before after writing
+  pub failed : ServingFailsBy (program_start tenants age ages) files journal why from left reading.calls before after writing
 
 -- The words name tenants and a path. To this path the journal of no step was written, or this and then the journal of what was
 -- served, and nothing else.
@@ -216,7 +216,7 @@ pub record WritesJournal (words : List Text) (files : FileClaims) (from left : O
   pub path : Text
   pub telling : Telling
   pub asked : AskForThreads words workers tenants age ages (Some path) telling
-  pub written : WritesServed (setup_of tenants age ages) files path from left
+  pub written : WritesServed (program_start tenants age ages) files path from left
 
 -- ---- lines are answered at once
 
@@ -228,7 +228,7 @@ pub record AnswersAtOnce (words : List Text) (files : FileClaims) (from left bef
   pub sends : ℕ
   pub journal : Option Text
   pub asked : AskForAnswers words tenants age ages sends journal
-  pub answered : AnswersLanes (setup_of tenants age ages) sends files journal from left before after
+  pub answered : AnswersLanes (program_start tenants age ages) sends files journal from left before after
 
 -- The words name tenants, and answering the lines of the input at once for them failed.
 pub record FailsInAnswering (words : List Text) (files : FileClaims) (why : Cause) (from left : Option (List ℕ)) (reading : Reading)
@@ -239,7 +239,7 @@ pub record FailsInAnswering (words : List Text) (files : FileClaims) (why : Caus
   pub sends : ℕ
   pub journal : Option Text
   pub asked : AskForAnswers words tenants age ages sends journal
-  pub failed : AnsweringFailsBy (setup_of tenants age ages) sends files journal why from left reading before after writing
+  pub failed : AnsweringFailsBy (program_start tenants age ages) sends files journal why from left reading before after writing
 
 -- The words name tenants and a path. To this path the journal of no step was written, or this and then the journal of what was
 -- answered, and nothing else.
@@ -250,7 +250,7 @@ pub record WritesAnswered (words : List Text) (files : FileClaims) (from : Optio
   pub sends : ℕ
   pub path : Text
   pub asked : AskForAnswers words tenants age ages sends (Some path)
-  pub written : WritesJournals (setup_of tenants age ages) sends files path from
+  pub written : WritesJournals (program_start tenants age ages) sends files path from
 
 -- ---- lines are answered at once, with a folder of data
 
@@ -264,8 +264,8 @@ pub record AnswersInFolder (words : List Text) (log : LogClaims) (from left befo
   pub folder : Text
   pub sync : Bool
   pub asked : AskForKeeping words tenants age ages sends folder sync
-  pub answered : AnswersData (setup_of tenants age ages) sends log from left before after
-  pub has : sync ≡ true → HasInput (setup_of tenants age ages) sends log from
+  pub answered : AnswersData (program_start tenants age ages) sends log from left before after
+  pub has : sync ≡ true → HasInput (program_start tenants age ages) sends log from
 
 -- The words name tenants and a folder, and answering the lines of the input at once for them failed.
 pub record FailsInFolder (words : List Text) (log : LogClaims) (why : Cause) (from left : Option (List ℕ)) (reading : Reading)
@@ -277,7 +277,7 @@ pub record FailsInFolder (words : List Text) (log : LogClaims) (why : Cause) (fr
   pub folder : Text
   pub sync : Bool
   pub asked : AskForKeeping words tenants age ages sends folder sync
-  pub failed : DataFailsBy (setup_of tenants age ages) sends log (data_fault.Failed why) from left reading before after
+  pub failed : DataFailsBy (program_start tenants age ages) sends log (data_fault.Failed why) from left reading before after
 
 -- The words name tenants and a folder whose log was begun with other words, and that was said. Nothing was read and nothing written, and
 -- the log is as it was.
@@ -290,7 +290,7 @@ pub record RefusesFolder (words : List Text) (log : LogClaims) (text : Text) (fr
   pub folder : Text
   pub sync : Bool
   pub asked : AskForKeeping words tenants age ages sends folder sync
-  pub refused : DataFailsBy (setup_of tenants age ages) sends log data_fault.OtherWords from left reading before after
+  pub refused : DataFailsBy (program_start tenants age ages) sends log data_fault.OtherWords from left reading before after
   pub said : text ≡ other_words_text
 
 -- The words name tenants and a folder in whose log a line is refused, or answered otherwise than it was, and that was said. Nothing was
@@ -305,9 +305,9 @@ pub record RefusesLog (words : List Text) (log : LogClaims) (text : Text) (from 
   pub sync : Bool
   pub asked : AskForKeeping words tenants age ages sends folder sync
   pub line : ℕ
-  pub refused : (DataFailsBy (setup_of tenants age ages) sends log (data_fault.Refused line) from left reading before after
+  pub refused : (DataFailsBy (program_start tenants age ages) sends log (data_fault.Refused line) from left reading before after
       × (text ≡ refused_line_text line))
-      ⊎ (DataFailsBy (setup_of tenants age ages) sends log (data_fault.Otherwise line) from left reading before after
+      ⊎ (DataFailsBy (program_start tenants age ages) sends log (data_fault.Otherwise line) from left reading before after
       × (text ≡ otherwise_text line))
 
 -- The words name tenants and a folder. If replies are to wait for its log: at each moment, whatever a crash leaves of the log, all that was
@@ -320,7 +320,7 @@ pub record KeepsFolder (words : List Text) (log : LogClaims) : Type 0 where
   pub folder : Text
   pub sync : Bool
   pub asked : AskForKeeping words tenants age ages sends folder sync
-  pub lasts : sync ≡ true → DataLasts (setup_of tenants age ages) sends log
+  pub lasts : sync ≡ true → DataLasts (program_start tenants age ages) sends log
 
 -- ---- what files have
 

@@ -1,2 +1,3 @@
+pub mod Program
 pub mod Arguments
 pub mod Ends

@@ -11,6 +11,7 @@
 
 mod program;
 mod seeding;
+mod starting;
 
 pub use command_parts::{
     Cause, DataFiles, End, FileFault, HostFiles, MemoryFile, ProgramFault, WholeFiles,

@@ -18,12 +18,12 @@ ghost use Rattle.silo_program.specs.Ends.{IsStreamFault, LeavesFiles, RefusesFol
 ghost use Rattle.command_parts.specs.declared.failure.End.{End as EndValue};
 
 use crate::seeding::{random_number, seed_for};
+use crate::starting::{Named, start_of};
 use command_parts::{
     Cause, DataFiles, End, ProgramFault, WholeFiles, cause_of, say, tell, tell_end,
 };
 use data_command::{DataOpening, answer_data, explain_data};
 use grain_id::HashSeed;
-use idle_collector::AgeTable;
 use journal_commands::{audit_file, migrate_file};
 use line_commands::{answer_input, answer_steps};
 use line_protocol::{Input, Output};
@@ -37,7 +37,7 @@ use std::random::RandomSource;
 use std::sync::Wait;
 use std::thread::Threads;
 use tenant_audit::{AuditGate, FreeAuditGate};
-use tenant_gate::{Age, TenantTable};
+use tenant_gate::Age;
 use worker_host::{FreeGate, TurnGate};
 
 /// What `--version` shows.
@@ -100,13 +100,6 @@ fn explain_ages(alloc: Global, fault: AgesFault) -> ProgramFault
     }
 }
 
-/// The tenants that arguments name, and the ages of kinds that a text names.
-#[derive(Drop)]
-struct Named {
-    tenants: TenantTable,
-    ages: AgeTable,
-}
-
 /// Reads the tenant arguments, and then the text of ages.
 fn read_named(alloc: Global, arguments: &[&str], ages: Option<&str>) -> Result<Named, ProgramFault>
     ensures named { IfOk result (λ named. NameTenants (map (λ text. text.now) arguments.now) named.tenants
@@ -151,7 +144,8 @@ fn take_steps<R: Read, W: Write>(
         (W.contents output.old.writer) (W.contents output.new.writer) output.new.calls) }
 {
     let named = read_named(alloc, arguments, ages)?;
-    match answer_steps(alloc, seed, named.tenants, age, named.ages, input, output) {
+    let start = start_of(seed, named, age);
+    match answer_steps(alloc, start, input, output) {
         Ok(()) => Ok(End::Well),
         Err(why) => Err(ProgramFault::Failed(cause_of(why))),
     }
@@ -187,18 +181,8 @@ fn answer_tenants<F: WholeFiles, R: Read, W: Write>(
         (R.remaining input.old.reader) (R.remaining input.new.reader) }
 {
     let named = read_named(alloc, arguments, ages)?;
-    match answer_input(
-        alloc,
-        seed,
-        named.tenants,
-        age,
-        named.ages,
-        sends,
-        journal,
-        files,
-        input,
-        output,
-    ) {
+    let start = start_of(seed, named, age);
+    match answer_input(alloc, start, sends, journal, files, input, output) {
         Ok(()) => Ok(End::Well),
         Err(why) => Err(ProgramFault::Failed(why)),
     }
@@ -248,11 +232,8 @@ fn answer_in_folder<H: AllocGlobal + RandomSource, F: WholeFiles + DataFiles, R:
     };
     let named = read_named(alloc, task.arguments, task.ages)?;
     let opening = DataOpening {
-        seed,
+        start: start_of(seed, named, task.age),
         number,
-        tenants: named.tenants,
-        age: task.age,
-        ages: named.ages,
         sends: task.sends,
     };
     match answer_data(alloc, opening, task.folder, files, input, output) {
@@ -300,19 +281,9 @@ fn serve_tenants<
         (R.remaining input.old.reader) (R.remaining input.new.reader) }
 {
     let named = read_named(rt.alloc(), arguments, ages)?;
+    let start = start_of(seed, named, age);
     match serve_lines(
-        rt,
-        seed,
-        workers,
-        named.tenants,
-        age,
-        named.ages,
-        journal,
-        telling,
-        files,
-        input,
-        output,
-        gate,
+        rt, start, workers, journal, telling, files, input, output, gate,
     ) {
         Ok(text) => {
             if asks_to_tell(telling) {

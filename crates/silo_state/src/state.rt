@@ -1,7 +1,7 @@
 //! What a silo holds of all its tenants.
 
 ghost use Rattle.std.specs.Prelude.{◌≡◌, IfOk};
-ghost use Rattle.silo_model.specs.Opening.{opening};
+ghost use Rattle.silo_model.specs.Opening.{new_setup, opening};
 
 use crate::activations::Activations;
 use grain_id::{HashSeed, Tenant};
@@ -78,7 +78,7 @@ impl<S: GrainStorage + Drop, L: GrainLogic + Drop> SiloState<S, L> {
         seed: HashSeed,
     ) -> Result<SiloState<S, L>, AllocError>
         ensures { IfOk result (λ b. b ≡ record {
-          whole = opening (record { tenants = tenants.now; age = age; ages = ages; rows = S.rows storage });
+          whole = opening (new_setup tenants.now age ages (S.rows storage));
           failures = S.failed storage;
         }) }
     {

@@ -5,3 +5,4 @@ pub mod Queues
 pub mod Takes
 pub mod Senders
 pub mod Numbers
+pub mod KeptParts

@@ -32,6 +32,14 @@ pub record Account : Type 0 where
 abbrev pub fresh_account : Limits → Account
 fresh_account limits = record { limits = limits; count = 0; sends = [] }
 
+-- what of an account a silo that is left hands to one that goes on: all but the limits
+pub record KeptAccount : Type 0 where
+  pub count : ℕ
+  pub sends : List Send
+
+abbrev pub kept_account : Account → KeptAccount
+kept_account a = record { count = a.count; sends = a.sends }
+
 -- the account of each tenant of the table, as a silo opens: of a tenant that stands twice the first limits count
 abbrev pub fresh_accounts : Table → FinMap text_cmp Account
 fresh_accounts tenants = finite.from_entries (map (λ e. (e.0, fresh_account e.1)) tenants)

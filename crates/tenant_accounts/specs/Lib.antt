@@ -1,3 +1,4 @@
 pub mod Kept
 pub mod Sends
+pub mod Parts
 pub mod inside

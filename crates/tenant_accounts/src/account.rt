@@ -31,7 +31,7 @@ pub struct Sent {
 pub struct Account {
     limits: Limits,
     count: u64,
-    sends: BTreeMap<u64, Sent>,
+    pub(crate) sends: BTreeMap<u64, Sent>,
     index: BTreeMap<GrainId, VecDeque<u64>>,
     next: u64,
 }

@@ -28,7 +28,7 @@ pub use accepted::LAST_NUMBER;
 /// place, with one comparison of names.
 #[derive(Drop)]
 pub struct Accounts {
-    by_name: IndexMap<String, Account>,
+    pub(crate) by_name: IndexMap<String, Account>,
     /// The names of the tenants, in the order of their accounts: a copy of one shares its text.
     names: Vec<Tenant>,
     latest: usize,

@@ -10,6 +10,8 @@
 
 mod account;
 mod accounts;
+mod parts;
 
 pub use account::{Account, Sent};
 pub use accounts::{Accounts, LAST_NUMBER};
+pub use parts::AccountParts;

@@ -1,5 +1,4 @@
 mod Starts
-mod SiloJournal
 mod Steps
 mod RowsApart
 mod Owners

@@ -1,4 +1,3 @@
-pub mod SiloJournal
 pub mod ReportView
 pub mod ReportText
 pub mod ReadBack

@@ -57,7 +57,7 @@ fn a_batch_is_written_synced_and_told(rt: HostRuntime) -> Result<(), Fail> {
     let Ok(next) = done else {
         return Err(Fail::new(format_args!("nothing failed")));
     };
-    same(acts, (48, 1, 3))?;
+    same(acts, (65, 1, 3))?;
     if next.told == sum_after(0, b"ok\n") {
         return Ok(());
     }
@@ -70,9 +70,9 @@ fn nothing_is_told_before_it_is_synced(rt: HostRuntime) -> Result<(), Fail> {
     let (append, acts) = committed(alloc, 1)?;
     same(acts, (2, 0, 0))?;
     let (sync, acts) = committed(alloc, 2)?;
-    same(acts, (48, 0, 0))?;
+    same(acts, (65, 0, 0))?;
     let (tell, acts) = committed(alloc, 3)?;
-    same(acts, (48, 1, 2))?;
+    same(acts, (65, 1, 2))?;
     if append == Err(CommitFault::Host) && sync == append && tell == append {
         return Ok(());
     }

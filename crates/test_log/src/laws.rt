@@ -8,6 +8,8 @@ fn the_laws_are_stated() {
     log_text::laws::reads_batches();
     log_text::laws::prefixes_pass();
     log_text::laws::ends_pass();
+    log_text::laws::batches_kept();
+    log_text::laws::lost_refused();
     log_text::laws::one_text();
     log_text::laws::spells_plain();
     log_host::laws::starts_settled();

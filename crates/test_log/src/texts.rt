@@ -28,16 +28,16 @@ age 900000
 kind counter 1000
 tenant red 2 4
 tenant blue 1 1
-of 0123456789abcdef
+of 0123456789abcdef d7c3bcbec7963184
 ";
 
 static FIRST: &str = "+{\"op\":\"call\",\"from\":\"red/c1\",\"id\":1}
 +{\"op\":\"status\",\"from\":\"red/c1\",\"id\":2}
-=01234567 81fdff9c66986f82 c2c3d2c7970fe5a7
+=01234567 000000000000004e 81fdff9c66986f82 b840605d01797f11
 ";
 
 static SECOND: &str = "+{\"op\":\"tick\",\"now\":5}
-=01234567 3f7f4ce40a3a6940 5fd21946d9ea49b1
+=01234567 0000000000000017 3f7f4ce40a3a6940 4afd8d8f46f55b2b
 ";
 
 /// What was told for the first batch.
@@ -139,13 +139,36 @@ fn batches_are_read(rt: HostRuntime) -> Result<(), Fail> {
     )
 }
 
-/// An end that is cut off, and one that is refused at its third line.
-static CUT: &str = "+{}\n\n=01234567 0 0\n";
+#[test]
+fn a_changed_number_is_seen(rt: HostRuntime) -> Result<(), Fail> {
+    let mut head = Vec::from_slice(rt.alloc(), HEAD.as_bytes())?;
+    let at = head.len() - 34;
+    head[at] = b'1';
+    holds(
+        "no head",
+        cut_head(WORDS.as_bytes(), head.as_slice()).is_none(),
+    )
+}
 
-static REFUSED: &str = "+{}\n+{}\n=01234567 0 0\n=89abcdef 0 0\n=01234567 0 0\n";
+/// An end that is cut off, and two that are refused at their third line: for a second mark, and for one in another place.
+static CUT: &str = "+{}\n\n=01234567 0000000000000005 0 0\n";
+
+static REFUSED: &str = "+{}\n+{}\n=01234567 0000000000000008 0 0\n=89abcdef 0 0\n=01234567 0 0\n";
+
+static MOVED: &str = "+{}\n+{}\n=01234567 0000000000000004 0 0\n";
+
+/// The second batch behind the first, of which the mark has another first byte.
+static LOST: &str = "+{\"op\":\"call\",\"from\":\"red/c1\",\"id\":1}
++{\"op\":\"status\",\"from\":\"red/c1\",\"id\":2}
+-01234567 000000000000004e 81fdff9c66986f82 b840605d01797f11
++{\"op\":\"tick\",\"now\":5}
+=01234567 0000000000000017 3f7f4ce40a3a6940 4afd8d8f46f55b2b
+";
 
 #[test]
 fn ends_are_cut_off_or_refused(rt: HostRuntime) -> Result<(), Fail> {
     holds("cut", fault_behind(NAME, CUT.as_bytes()).is_none())?;
-    holds("refused", fault_behind(NAME, REFUSED.as_bytes()) == Some(2))
+    holds("two", fault_behind(NAME, REFUSED.as_bytes()) == Some(2))?;
+    holds("moved", fault_behind(NAME, MOVED.as_bytes()) == Some(2))?;
+    holds("lost", fault_behind(NAME, LOST.as_bytes()) == Some(2))
 }

@@ -348,7 +348,7 @@ fn begins_as_spelled(alloc: Global, kind: &str, words: &str) -> Result<bool, Fai
 /// Writes what a message asks, if it is a number alone.
 fn put_number_asked(alloc: Global, words: &str, out: &mut String) -> Result<(), Fail> {
     let message = Message::read(alloc, &spelled(alloc, words)?)?;
-    show(out, number_asked(message.bytes()))
+    show(out, number_asked(&message))
 }
 
 impl Subject for Known {

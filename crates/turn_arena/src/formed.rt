@@ -1,11 +1,13 @@
-//! Reading bytes that are known to be a state's or a message's: nothing of that is tested again, and texts and bytes are lent.
+//! Reading a state or a message, whose bytes are known to spell one: nothing of that is tested again, and texts and bytes are lent.
 
 ghost use Rattle.std.specs.Prelude.{ℕ, ◌≡◌, List, Some, None, IsSome, IfOk, option_map};
-ghost use Rattle.request_codec.specs.Call.{message_call, state_value, asks};
+ghost use Rattle.request_codec.specs.Call.{message_call, asks};
 ghost use Rattle.request_codec.specs.Limits.{depth_limit};
 ghost use Rattle.request_codec.specs.Reading.{text_at, value_at, members_at, fields_at};
+ghost use Rattle.request_codec.specs.Spelling.{SpellsMessage, SpellsState};
 ghost use Rattle.request_codec.specs.Start.{begun, start_at};
 ghost use Rattle.request_codec.specs.Tree.{Tree};
+ghost use Rattle.request_codec.specs.Written.{message_spelling, spelling};
 ghost use Rattle.turn_arena.specs.NodeValue.{node_value, node_values, field_values};
 
 use crate::node::{Field, Node};
@@ -13,6 +15,7 @@ use bumpalo::Bump;
 use bumpalo::collections::into_bump_slice;
 use request_codec::bytes::{Start, bytes_of, start_of};
 use request_codec::limits::MAX_DEPTH;
+use request_codec::{Message, StateBytes};
 use std::alloc::AllocError;
 use std::str;
 
@@ -120,14 +123,14 @@ fn formed_fields<'a>(
     Ok((into_bump_slice(fields), rest))
 }
 
-/// The value of bytes that are known to be a state's. Its texts, bytes and names are lent from the bytes, and its
-/// lists and maps lie in the arena. The only error: the arena can't grow.
+/// The value of a state. Its texts, bytes and names are lent from the state, and its lists and maps lie in the arena. The
+/// only error: the arena can't grow.
 #[inline(always)]
-pub fn formed_in<'a>(bump: &'a Bump, bytes: &'a [u8]) -> Result<Node<'a>, AllocError>
-    requires { IsSome (state_value bytes.now) }
-    ensures { IfOk result (λ node. state_value bytes.now ≡ Some (node_value node)) }
+pub fn formed_in<'a>(bump: &'a Bump, state: &'a StateBytes) -> Result<Node<'a>, AllocError>
+    ensures value { IfOk result (λ node. node_value node ≡ state.now) }
+    ensures spelled { IfOk result (λ node. SpellsState (node_value node) (spelling (node_value node))) }
 {
-    let (node, _) = formed_node(bump, bytes, MAX_DEPTH)?;
+    let (node, _) = formed_node(bump, state.bytes(), MAX_DEPTH)?;
     Ok(node)
 }
 
@@ -148,17 +151,18 @@ pub(crate) fn known_call(bytes: &[u8]) -> (&str, &[u8])
     (method, argument)
 }
 
-/// The method and the argument of bytes that are known to be a message's. The method, texts, bytes and names are lent from
-/// the bytes, and lists and maps lie in the arena. The only error: the arena can't grow.
+/// The method and the argument of a message. The method, texts, bytes and names are lent from the message, and lists and
+/// maps lie in the arena. The only error: the arena can't grow.
 #[inline(always)]
 pub fn formed_call_in<'a>(
     bump: &'a Bump,
-    bytes: &'a [u8],
+    message: &'a Message,
 ) -> Result<(&'a str, Node<'a>), AllocError>
-    requires { IsSome (message_call bytes.now) }
-    ensures { IfOk result (λ found. message_call bytes.now ≡ Some (asks found.0.now (node_value found.1))) }
+    ensures value { IfOk result (λ found. asks found.0.now (node_value found.1) ≡ message.now) }
+    ensures spelled { IfOk result (λ found. SpellsMessage found.0.now (node_value found.1)
+        (message_spelling (asks found.0.now (node_value found.1)))) }
 {
-    let (method, spelled) = known_call(bytes);
+    let (method, spelled) = known_call(message.bytes());
     let (argument, _) = formed_node(bump, spelled, MAX_DEPTH)?;
     Ok((method, argument))
 }

@@ -1,7 +1,7 @@
 //! A message whose argument is one named number, read with no arena.
 
 ghost use Rattle.std.specs.Prelude.{ℕ, ℤ, ◌≡◌, List, Some, None, IsSome, IfSome};
-ghost use Rattle.request_codec.specs.Call.{message_call, asks};
+ghost use Rattle.request_codec.specs.Call.{asks};
 ghost use Rattle.request_codec.specs.Limits.{depth_limit};
 ghost use Rattle.request_codec.specs.Reading.{value_at};
 ghost use Rattle.request_codec.specs.Start.{leaf, map_of, start_at};
@@ -9,6 +9,7 @@ ghost use Rattle.request_codec.specs.Tree as tree;
 ghost use Rattle.request_codec.specs.Tree.{integer, field, no_fields};
 
 use crate::formed::{known_call, known_start, known_text};
+use request_codec::Message;
 use request_codec::bytes::Start;
 
 /// The bytes of the only field, if a map of one field is known to start at the front.
@@ -55,16 +56,15 @@ fn named_number(bytes: &[u8]) -> Option<(&str, i64, &[u8])>
     Some((name, number, rest))
 }
 
-/// The method, the name and the number of bytes that are known to be a message's, if its argument is `{name: number}` with
-/// a whole number. The texts are lent from the bytes.
-pub fn number_asked(bytes: &[u8]) -> Option<(&str, &str, i64)>
-    requires { IsSome (message_call bytes.now) }
+/// The method, the name and the number of a message, if its argument is `{name: number}` with a whole number. The texts are
+/// lent from the message.
+pub fn number_asked(message: &Message) -> Option<(&str, &str, i64)>
     ensures found { IfSome result
-        (λ found. message_call bytes.now ≡ Some (asks found.0.now (tree.map (field found.1.now (integer found.2) no_fields)))) }
+        (λ found. message.now ≡ asks found.0.now (tree.map (field found.1.now (integer found.2) no_fields))) }
     ensures none { result ≡ None → (method : List ℕ) → (name : List ℕ) → (number : ℤ)
-        → message_call bytes.now ≡ Some (asks method (tree.map (field name (integer number) no_fields))) → ⊥ }
+        → message.now ≡ asks method (tree.map (field name (integer number) no_fields)) → ⊥ }
 {
-    let (method, argument) = known_call(bytes);
+    let (method, argument) = known_call(message.bytes());
     let (name, number, _) = named_number(argument)?;
     Some((method, name, number))
 }

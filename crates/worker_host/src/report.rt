@@ -1,6 +1,7 @@
 //! What serving answers, and what is looked at once the workers have ended.
 
 ghost use Rattle.std.specs.Prelude.{◌≡◌, IfOk, IsTrue, OnOk, map as map_list, true};
+ghost use Rattle.silo_model.specs.Opening.{nothing_kept};
 ghost use Rattle.silo_model.specs.Pending.{AllQuiet};
 ghost use Rattle.lane_model.specs.Lanes.{AreDistinct};
 ghost use Rattle.lane_model.specs.Pacing.{is_paced};
@@ -156,6 +157,7 @@ fn served_answers<S: GrainStorage, L: GrainLogic>(
     requires paced { is_paced L.logic silo.now.setup silo.now.journal ≡ true }
     requires quiet { AllQuiet silo.now.whole }
     ensures opened { OnOk result (IsOpenedSo opened.now silo.now) }
+    ensures new { OnOk result (silo.now.setup.kept ≡ nothing_kept) }
     ensures served { IfOk result (λ answers. AreServed L.logic silo.now.setup lanes.now silo.now.journal silo.now.whole
         silo.now.failures.at_opening silo.now.failures.now (map_list (λ v. v.items) answers.items)) }
 {
@@ -175,6 +177,7 @@ pub fn settle<S: GrainStorage + Drop, L: GrainLogic + Drop>(
 ) -> Result<ServeReport<S, L>, ServeFault>
     requires { AreDistinct lanes.now }
     ensures opened { IfOk result (λ report. IsOpenedSo opened.now report.silo) }
+    ensures new { IfOk result (λ report. report.silo.setup.kept ≡ nothing_kept) }
     ensures served { IfOk result (λ report. AreServed L.logic report.silo.setup lanes.now report.silo.journal report.silo.whole
         report.silo.failures.at_opening report.silo.failures.now (map_list (λ v. v.items) report.answers.items)) }
     ensures answered { IfOk result (λ report. AreAnswered lanes.now report.silo.whole.replies) }

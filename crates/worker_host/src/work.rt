@@ -1,7 +1,7 @@
 //! Serving lanes by threads.
 
 ghost use Rattle.std.specs.Prelude.{◌≡◌, ◌≤◌, ℕ, List, IfOk, map as map_list};
-ghost use Rattle.silo_model.specs.Opening.{start_of};
+ghost use Rattle.silo_model.specs.Opening.{new_setup, start_of};
 ghost use Rattle.silo_model.specs.Run.{machine_run, restricted_to};
 ghost use Rattle.silo_model.specs.Whole.{shown_to};
 ghost use Rattle.lane_model.specs.Lanes.{AreDistinct};
@@ -48,8 +48,7 @@ pub fn serve<
     requires distinct { AreDistinct lanes.now }
 
     // The silo was opened with the setup's tenants, age, ages and rows, as the storage was then.
-    ensures setup { IfOk result (λ report. report.silo.setup
-        ≡ record { tenants = setup.tenants; age = setup.age; ages = setup.ages; rows = S.rows setup.storage }) }
+    ensures setup { IfOk result (λ report. report.silo.setup ≡ new_setup setup.tenants setup.age setup.ages (S.rows setup.storage)) }
     ensures failures { IfOk result (λ report. report.silo.failures.at_opening ≡ S.failed setup.storage) }
 
     // The lanes were served.
@@ -90,8 +89,7 @@ pub fn serve_seeded<
     requires distinct { AreDistinct lanes.now }
 
     // The silo was opened with the setup's tenants, age, ages and rows, as the storage was then.
-    ensures setup { IfOk result (λ report. report.silo.setup
-        ≡ record { tenants = setup.tenants; age = setup.age; ages = setup.ages; rows = S.rows setup.storage }) }
+    ensures setup { IfOk result (λ report. report.silo.setup ≡ new_setup setup.tenants setup.age setup.ages (S.rows setup.storage)) }
     ensures failures { IfOk result (λ report. report.silo.failures.at_opening ≡ S.failed setup.storage) }
 
     // The lanes were served.

@@ -2,7 +2,7 @@
 
 ghost use Rattle.std.specs.Prelude.{◌≡◌, ◌-◌, [], true, false, IfOk};
 ghost use Rattle.grain_id.specs.Names.{Client};
-ghost use Rattle.silo_model.specs.Opening.{opening};
+ghost use Rattle.silo_model.specs.Opening.{new_setup, opening};
 ghost use Rattle.lane_model.specs.Asking.{asker_of};
 ghost use Rattle.lane_model.specs.Pacing.{is_paced};
 ghost use Rattle.silo_core.specs.History.{Answered};
@@ -134,8 +134,7 @@ impl<S: GrainStorage + Drop, L: GrainLogic + Drop> WorkingSilo<S, L> {
         seed: HashSeed,
         lanes: &[Lane],
     ) -> Result<WorkingSilo<S, L>, AllocError>
-        ensures setup { IfOk result (λ w. w.setup
-            ≡ record { tenants = setup.tenants; age = setup.age; ages = setup.ages; rows = S.rows setup.storage }) }
+        ensures setup { IfOk result (λ w. w.setup ≡ new_setup setup.tenants setup.age setup.ages (S.rows setup.storage)) }
         ensures opening { IfOk result (λ w. (w.whole ≡ opening w.setup) × (w.journal ≡ [])) }
         ensures failures { IfOk result (λ w. w.failures ≡ record { at_opening = S.failed setup.storage; now = S.failed setup.storage }) }
     {

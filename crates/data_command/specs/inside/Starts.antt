@@ -1,7 +1,6 @@
 -- What a start of a log comes to, and its parts.
 use Rattle.std.specs.Prelude.{◌≡◌, ◌++◌, ℕ, ◌+◌, List, [], Option, Some}
-use Rattle.grain_kinds.specs.Kinds.{newest_kinds}
-use Rattle.silo_model.specs.Opening.{Setup, opening}
+use Rattle.silo_model.specs.Opening.{opening}
 use Rattle.silo_core.specs.History.{History}
 use Rattle.log_text.specs.Head.{first_sum, head_text, name_of}
 use Rattle.log_host.specs.Laws.{restarted}
@@ -13,6 +12,7 @@ use Rattle.log_answer.specs.declared.starting.AgainFault.{AgainFault}
 use Rattle.log_answer.specs.declared.starting.AgainFault.TheVariants as again_why
 use Rattle.log_host.specs.declared.host.OpenFault.{OpenFault}
 use Rattle.log_host.specs.declared.host.OpenFault.TheVariants as open_fault
+use Rattle.command_parts.specs.Setups.{Start}
 use Rattle.command_parts.specs.declared.failure.Cause.{Cause}
 use Rattle.command_parts.specs.declared.failure.Cause.TheVariants as cause
 use Rattle.data_command.specs.Data.{IsFound, LogClaims, StartsFrom, data_log}
@@ -22,16 +22,16 @@ use Rattle.data_command.specs.declared.fault.DataFault.TheVariants as data_fault
 
 -- The silo is where the lines lead that were found, and the log goes on at this place. It has the batches that were found behind its
 -- head, and nothing behind them; nothing was done to it since.
-pub record IsStarted (setup : Setup) (sends : ℕ) (log : LogClaims) (place : LogPlace) (silo : History) : Type 0 where
+pub record IsStarted (start : Start) (sends : ℕ) (log : LogClaims) (place : LogPlace) (silo : History) : Type 0 where
   pub found : Option (List ℕ)
   pub was : IsFound log found
-  pub starts : StartsFrom setup sends found silo
+  pub starts : StartsFrom start sends found silo
   pub named : place.name ≡ name_of starts.number
-  pub goes_on : GoesOn newest_kinds sends (opening setup) (first_sum (head_words setup sends) starts.number) place
-      (restarted (data_log setup sends starts.number) starts.bytes) silo.whole
+  pub goes_on : GoesOn start.version.logic sends (opening start.setup) (first_sum (head_words start sends) starts.number) place
+      (restarted (data_log start sends starts.number) starts.bytes) silo.whole
   pub fresh : log.old.acts ≡ Some [] → log.new.acts ≡ Some []
   pub kept : log.old.acts ≡ Some [] → log.new.begun
-      ≡ Some (head_text (head_words setup sends) starts.number ++ (restarted (data_log setup sends starts.number) starts.bytes).file)
+      ≡ Some (head_text (head_words start sends) starts.number ++ (restarted (data_log start sends starts.number) starts.bytes).file)
 
 -- why a log isn't answered again whose head has so many lines
 abbrev pub again_fault : ℕ → AgainFault → DataFault

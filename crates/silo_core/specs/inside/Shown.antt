@@ -6,7 +6,7 @@ use Rattle.tenant_gate.specs.Table.{Table}
 use Rattle.grain_storage.specs.declared.row.Row.{Row}
 use Rattle.grain_storage.specs.Rows.{Rows}
 use Rattle.idle_collector.specs.Ages.{Ages}
-use Rattle.silo_model.specs.Opening.{Setup}
+use Rattle.silo_model.specs.Opening.{Setup, new_setup}
 
 -- the rows of a list
 abbrev pub rows_in : List (Grain × Row) → Rows
@@ -17,4 +17,4 @@ abbrev pub AreListed : List (Grain × Row) → Type 0
 AreListed list = entries (rows_in list) ≡ list
 
 abbrev pub setup_of : Table → ℕ → Ages → List (Grain × Row) → Setup
-setup_of tenants age ages list = record { tenants = tenants; age = age; ages = ages; rows = rows_in list }
+setup_of tenants age ages list = new_setup tenants age ages (rows_in list)

@@ -3,6 +3,7 @@ use Rattle.log_text.specs.Head.{IsNumber, head_text}
 use Rattle.log_text.specs.Lines.{whole_lines}
 use Rattle.log_text.specs.Sums.{after}
 use Rattle.log_host.specs.Files.{Finds}
+use Rattle.command_parts.specs.Setups.{started, version_of}
 use Rattle.data_command.specs.Data.{log_view, since}
 use Rattle.data_command.specs.Words.{head_words}
 use Rattle.data_command.proofs.Starts.{cut_fresh, cut_kept, cut_lasts, headed, kept_length, not_again, on_err, on_ok, placed, started_again, uncut_kept}
@@ -33,56 +34,56 @@ pub returns-in-Err-clause-fault : goal.returns-in-Err-clause-fault
 returns-in-Err-clause-fault g c old finds =
     let number = c.in-Some.number.now in
     let behind = c.in-Some.behind.now in
-    let words = head_words c.args.silo.now.history.setup c.args.task.now.sends in
+    let words = head_words (started (version_of g.L.GrainLogic.logic c.args.task.now.kinds) c.args.silo.now.history.setup) c.args.task.now.sends in
     let cuts = rw c.in-Some.is at c.cut_head.ensures in
     let text : c.args.bytes.now ≡ head_text words number ++ behind = cuts.1 ∙ ap (λ (ws : List ℕ). head_text ws number ++ behind) (c.as_slice.ensures.value ∙ c.requires.words) in
     let found = subst (λ (bs : List ℕ). Finds old.acts old.begun (g.F.LogHost.acts c.args.files.now) (g.F.LogHost.begun c.args.files.now) (Some bs)) text finds in
     let head = headed words number behind c.args.bytes.now _ text refl in
     let place = placed words number c.behind_head-place.result c.behind_head-place.ensures.name (c.behind_head-place.ensures.sum ∙ ap (λ (bs : List ℕ). after 0 bs) head) c.behind_head-place.ensures.told in
     let before = log_view g.F.LogHost.begun g.F.LogHost.acts g.F.LogHost.failed c.args.files.now in
-    not_again c.args.silo.now.history.setup c.args.task.now.sends old before number behind cuts.0 found before.failed c.args.silo.now.history c.behind_head-place.result c.in-Err.why c.again_fault.result c.requires.opened place
+    not_again (started (version_of g.L.GrainLogic.logic c.args.task.now.kinds) c.args.silo.now.history.setup) c.args.task.now.sends old before number behind cuts.0 found before.failed c.args.silo.now.history c.behind_head-place.result c.in-Err.why c.again_fault.result c.requires.opened place
     c.in-Err.ensures.stops (c.again_fault.ensures ∙ ap (λ (bs : List ℕ). again_fault (length (whole_lines bs)) c.in-Err.why) head)
 
 pub returns-then-is_err-clause-lasts : goal.returns-then-is_err-clause-lasts
 returns-then-is_err-clause-lasts g c old finds =
     let number = c.in-Some.number.now in
     let behind = c.in-Some.behind.now in
-    let words = head_words c.args.silo.now.history.setup c.args.task.now.sends in
+    let words = head_words (started (version_of g.L.GrainLogic.logic c.args.task.now.kinds) c.args.silo.now.history.setup) c.args.task.now.sends in
     let cuts = rw c.in-Some.is at c.cut_head.ensures in
     let text : c.args.bytes.now ≡ head_text words number ++ behind = cuts.1 ∙ ap (λ (ws : List ℕ). head_text ws number ++ behind) (c.as_slice.ensures.value ∙ c.requires.words) in
     let found = subst (λ (bs : List ℕ). Finds old.acts old.begun (g.F.LogHost.acts c.args.files.now) (g.F.LogHost.begun c.args.files.now) (Some bs)) text finds in
     let head = headed words number behind c.args.bytes.now _ text refl in
     let place = placed words number c.behind_head-place.result c.behind_head-place.ensures.name (c.behind_head-place.ensures.sum ∙ ap (λ (bs : List ℕ). after 0 bs) head) c.behind_head-place.ensures.told in
     let before = log_view g.F.LogHost.begun g.F.LogHost.acts g.F.LogHost.failed c.args.files.now in
-    cut_lasts c.args.silo.now.history.setup c.args.task.now.sends old before number behind cuts.0 found (log_view g.F.LogHost.begun g.F.LogHost.acts g.F.LogHost.failed c.keep.new.self) _
+    cut_lasts (started (version_of g.L.GrainLogic.logic c.args.task.now.kinds) c.args.silo.now.history.setup) c.args.task.now.sends old before number behind cuts.0 found (log_view g.F.LogHost.begun g.F.LogHost.acts g.F.LogHost.failed c.keep.new.self) _
     (on_err c.keep.result _ (sym c.is_err.ensures.value ∙ c.if-is_err.true) c.keep.ensures.err)
 
 pub returns-clause-started : goal.returns-clause-started
 returns-clause-started g c old finds =
     let number = c.in-Some.number.now in
     let behind = c.in-Some.behind.now in
-    let words = head_words c.args.silo.now.history.setup c.args.task.now.sends in
+    let words = head_words (started (version_of g.L.GrainLogic.logic c.args.task.now.kinds) c.args.silo.now.history.setup) c.args.task.now.sends in
     let cuts = rw c.in-Some.is at c.cut_head.ensures in
     let text : c.args.bytes.now ≡ head_text words number ++ behind = cuts.1 ∙ ap (λ (ws : List ℕ). head_text ws number ++ behind) (c.as_slice.ensures.value ∙ c.requires.words) in
     let found = subst (λ (bs : List ℕ). Finds old.acts old.begun (g.F.LogHost.acts c.args.files.now) (g.F.LogHost.begun c.args.files.now) (Some bs)) text finds in
     let head = headed words number behind c.args.bytes.now _ text refl in
     let place = placed words number c.behind_head-place.result c.behind_head-place.ensures.name (c.behind_head-place.ensures.sum ∙ ap (λ (bs : List ℕ). after 0 bs) head) c.behind_head-place.ensures.told in
     let before = log_view g.F.LogHost.begun g.F.LogHost.acts g.F.LogHost.failed c.args.files.now in
-    let setup = c.args.silo.now.history.setup in
+    let start = started (version_of g.L.GrainLogic.logic c.args.task.now.kinds) c.args.silo.now.history.setup in
     let sends = c.args.task.now.sends in
     let done = c.in-Ok.ensures.answered in
-    let long = kept_length setup sends old before number behind cuts.0 found c.args.silo.now.history c.answer_again.new.silo.history c.in-Ok.again c.behind_head-place.result place done in
+    let long = kept_length start sends old before number behind cuts.0 found c.args.silo.now.history c.answer_again.new.silo.history c.in-Ok.again c.behind_head-place.result place done in
     elim c.if-again-behind.branch [
       | then-again-behind+else-is_err w ↦
           let after_it = log_view g.F.LogHost.begun g.F.LogHost.acts g.F.LogHost.failed w.keep.new.self in
           let cut = on_ok w.keep.result _ (sym w.is_err.ensures.value ∙ w.if-is_err.false) w.keep.ensures.ok in
-          subst (λ f. IsStarted setup sends (since old (log_view g.F.LogHost.begun g.F.LogHost.acts g.F.LogHost.failed f)) c.in-Ok.again.place c.answer_again.new.silo.history) (sym w.files-is)
-          (started_again setup sends old before number behind cuts.0 found after_it c.args.silo.now.history c.answer_again.new.silo.history c.in-Ok.again c.behind_head-place.result refl c.requires.opened place done
-          (cut_fresh setup sends old before number behind cuts.0 found after_it _ cut)
-          (cut_kept setup sends old before number behind cuts.0 found after_it _ (ap₂ (λ (a b : ℕ). a + b) (ap (λ (bs : List ℕ). length bs) head) long) cut))
+          subst (λ f. IsStarted start sends (since old (log_view g.F.LogHost.begun g.F.LogHost.acts g.F.LogHost.failed f)) c.in-Ok.again.place c.answer_again.new.silo.history) (sym w.files-is)
+          (started_again start sends old before number behind cuts.0 found after_it c.args.silo.now.history c.answer_again.new.silo.history c.in-Ok.again c.behind_head-place.result refl c.requires.opened place done
+          (cut_fresh start sends old before number behind cuts.0 found after_it _ cut)
+          (cut_kept start sends old before number behind cuts.0 found after_it _ (ap₂ (λ (a b : ℕ). a + b) (ap (λ (bs : List ℕ). length bs) head) long) cut))
       | else-again-behind w ↦
-          subst (λ f. IsStarted setup sends (since old (log_view g.F.LogHost.begun g.F.LogHost.acts g.F.LogHost.failed f)) c.in-Ok.again.place c.answer_again.new.silo.history) (sym w.files-is)
-          (started_again setup sends old before number behind cuts.0 found before c.args.silo.now.history c.answer_again.new.silo.history c.in-Ok.again c.behind_head-place.result refl c.requires.opened place done
+          subst (λ f. IsStarted start sends (since old (log_view g.F.LogHost.begun g.F.LogHost.acts g.F.LogHost.failed f)) c.in-Ok.again.place c.answer_again.new.silo.history) (sym w.files-is)
+          (started_again start sends old before number behind cuts.0 found before c.args.silo.now.history c.answer_again.new.silo.history c.in-Ok.again c.behind_head-place.result refl c.requires.opened place done
           (λ e. (finds e).0.0)
-          (uncut_kept setup sends old before number behind cuts.0 found (λ less. omega (arith, w.if-again-behind.false, long, less))))
+          (uncut_kept start sends old before number behind cuts.0 found (λ less. omega (arith, w.if-again-behind.false, long, less))))
     ]

@@ -2,6 +2,7 @@ use Rattle.std.proofs.Common.{◌≡◌, ◌∙◌, List, ℕ, Some, ap, refl, s
 use Rattle.log_host.specs.Files.{Begins, Finds, MayBegin}
 use Rattle.log_text.specs.Head.{head_text}
 use Rattle.log_text.specs.Sums.{spelled}
+use Rattle.command_parts.specs.Setups.{started, version_of}
 use Rattle.data_command.specs.Data.{log_view, place_of}
 use Rattle.data_command.proofs.Starts.{begun_lasts, begun_started}
 use Rattle.data_command.proofs.starting.start_log.Goals as goal
@@ -16,7 +17,7 @@ pub returns-in-Ok-begin_log-clause-started : goal.returns-in-Ok-begin_log-clause
 returns-in-Ok-begin_log-clause-started g c =
     let words = c.as_slice-in-None.ensures.value ∙ c.requires.words in
     let n = c.args.task.now.number in
-    begun_started c.args.silo.now.history.setup c.args.task.now.sends
+    begun_started (started (version_of g.L.GrainLogic.logic c.args.task.now.kinds) c.args.silo.now.history.setup) c.args.task.now.sends
     (log_view g.F.LogHost.begun g.F.LogHost.acts g.F.LogHost.failed c.args.files.now) (log_view g.F.LogHost.begun g.F.LogHost.acts g.F.LogHost.failed c.open.new.self) (log_view g.F.LogHost.begun g.F.LogHost.acts g.F.LogHost.failed c.begin_log.new.files) n
     (rw c.in-None.is at c.in-Ok.ensures.ok) c.args.silo.now.history c.in-Ok-begin_log.place refl c.requires.opened (c.journal.ensures.idle c.requires.ready) (c.in-Ok-begin_log.ensures.place ∙ ap (λ (ws : List ℕ). place_of ws (spelled n)) words)
     (subst (λ (ws : List ℕ). Begins (g.F.LogHost.acts c.open.new.self) (g.F.LogHost.acts c.begin_log.new.files) (g.F.LogHost.begun c.begin_log.new.files) (head_text ws (spelled n))) words c.in-Ok-begin_log.ensures.begun)
@@ -25,7 +26,7 @@ pub returns-in-Err-begin_log-clause-lasts : goal.returns-in-Err-begin_log-clause
 returns-in-Err-begin_log-clause-lasts g c =
     let words = c.as_slice-in-None.ensures.value ∙ c.requires.words in
     let n = c.args.task.now.number in
-    begun_lasts c.args.silo.now.history.setup c.args.task.now.sends
+    begun_lasts (started (version_of g.L.GrainLogic.logic c.args.task.now.kinds) c.args.silo.now.history.setup) c.args.task.now.sends
     (log_view g.F.LogHost.begun g.F.LogHost.acts g.F.LogHost.failed c.args.files.now) (log_view g.F.LogHost.begun g.F.LogHost.acts g.F.LogHost.failed c.open.new.self) (log_view g.F.LogHost.begun g.F.LogHost.acts g.F.LogHost.failed c.begin_log.new.files) n
     (rw c.in-None.is at c.in-Ok.ensures.ok)
     (subst (λ (ws : List ℕ). MayBegin (g.F.LogHost.acts c.open.new.self) (g.F.LogHost.begun c.open.new.self) (g.F.LogHost.acts c.begin_log.new.files) (g.F.LogHost.begun c.begin_log.new.files) (head_text ws (spelled n))) words c.in-Err-begin_log.ensures.err)

@@ -7,4 +7,4 @@ pub returns-in_default-clause-fault : goal.returns-in_default-clause-fault
 returns-in_default-clause-fault g c = (serve.Memory, refl)
 
 pub returns-in-Ok-serve_lanes-clause-no_rows : goal.returns-in-Ok-serve_lanes-clause-no_rows
-returns-in-Ok-serve_lanes-clause-no_rows g c = no_rows c.in-Ok-serve_lanes.report.silo.setup c.args.tenants c.args.age c.args.ages c.in-Ok-serve_lanes.ensures.opened
+returns-in-Ok-serve_lanes-clause-no_rows g c = no_rows c.in-Ok-serve_lanes.report.silo.setup c.args.start.tenants c.args.start.age c.args.start.ages c.in-Ok-serve_lanes.ensures.opened

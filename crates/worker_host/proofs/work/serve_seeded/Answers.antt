@@ -1,12 +1,14 @@
 use Rattle.std.specs.Prelude.{map as map_list}
 use Rattle.std.proofs.lemmas.Result.{IfOk-weaker}
-use Rattle.worker_host.proofs.Served.{setup_is, failures_were, parts_are_runs}
+use Rattle.worker_host.proofs.Served.{both_of, setup_is, failures_were, parts_are_runs}
 use Rattle.worker_host.proofs.work.serve_seeded.Goals as goal
 
 pub returns-clause-setup : goal.returns-clause-setup
 returns-clause-setup g c =
     let a = c.args.setup in
-    IfOk-weaker c.settle.result _ _ (λ report so. setup_is c.in_ok-opened.opened report.silo a.tenants a.age a.ages (g.S.GrainStorage.rows a.storage) (g.S.GrainStorage.failed a.storage) so c.in_ok-opened.ensures) c.settle.ensures.opened
+    IfOk-weaker c.settle.result _ _
+    (λ report is. setup_is c.in_ok-opened.opened report.silo a.tenants a.age a.ages (g.S.GrainStorage.rows a.storage) (g.S.GrainStorage.failed a.storage) is.0 c.in_ok-opened.ensures is.1)
+    (both_of c.settle.result _ _ c.settle.ensures.opened c.settle.ensures.new)
 
 pub returns-clause-failures : goal.returns-clause-failures
 returns-clause-failures g c =

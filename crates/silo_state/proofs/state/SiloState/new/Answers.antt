@@ -1,6 +1,8 @@
-use Rattle.std.proofs.Common.{None, ap, ◌∙◌}
+use Rattle.std.proofs.Common.{None, ap, sym, ◌∙◌}
 use Rattle.std.specs.FinMap as map
+use Rattle.silo_model.specs.Machine.{Entries}
 use Rattle.silo_model.specs.Opening.{opening}
+use Rattle.silo_model.proofs.Opening.{new_accounts, none_awake}
 use Rattle.silo_state.specs.inside.Activations.{Activations}
 use Rattle.silo_state.specs.inside.Held.{held_of}
 use Rattle.silo_state.proofs.state.SiloState.new.Goals as goal
@@ -10,4 +12,6 @@ unfolding opening
 returns g c =
     let none : Activations = record { times = record { clock = 0; age = c.args.age; ages = c.args.ages }; entries = map.empty; expected = None } in
     let made = c.new-2.ensures ∙ ap (λ clock. record none { times = record none.times { clock = clock } }) c.beginning.ensures in
-    λ i. held_of (c.in_ok-new.ensures i) (made i) (g.S.GrainStorage.rows c.args.storage) (c.new-3.ensures.items i) (g.S.GrainStorage.failed c.args.storage)
+    let accounts = c.in_ok-new.ensures ∙ sym (new_accounts c.args.tenants.now) in
+    let awoken = λ (entries : Entries). record none { entries = entries } in
+    λ i. held_of (accounts i) ((made ∙ ap awoken (sym none_awake)) i) (g.S.GrainStorage.rows c.args.storage) (c.new-3.ensures.items i) (g.S.GrainStorage.failed c.args.storage)

@@ -1,46 +1,45 @@
-//! The journal of a silo.
+//! Writing the journal of a silo.
 
 ghost use Rattle.std.specs.Prelude.{◌≡◌, ℕ, List, [], All, None, IfOk};
 ghost use Rattle.std.specs.FinMap.{entries};
 ghost use Rattle.journal_text.specs.JournalAnswers.{IsJournalText};
-ghost use Rattle.journal_text.specs.Rules.{AsksInRange};
+ghost use Rattle.journal_text.specs.Rules.{AsksInRange, IsKinds};
 ghost use Rattle.journal_text.specs.Text.{journal_text};
-ghost use Rattle.grain_kinds.specs.Kinds.{logic_of};
 ghost use Rattle.audit_model.specs.Report.{IsFirstDifference};
-ghost use Rattle.tenant_audit.specs.SiloJournal.{journal_of};
+ghost use Rattle.silo_journal.specs.SiloJournal.{journal_of};
 
-use grain_kinds::Version;
+use grain_logic::GrainLogic;
 use grain_storage::GrainStorage;
 use journal_text::{JournalParts, journal_of_parts};
 use silo_core::Silo;
 use std::alloc::{AllocError, Global};
 
-/// The text, in the newest form, of the journal of a silo that opened with no rows: the number of its
+/// The text, in the newest form, of the journal of a silo that opened with no rows: the number that is given for its
 /// grains' logic, its age, the ages that kinds have of their own, its tenants with their limits, the steps
 /// that it took, its replies, and the rows that it holds.
 ///
 /// # Errors
 ///
 /// Out of memory.
-pub fn write_journal<S: GrainStorage, L: Version>(
+pub fn write_journal<S: GrainStorage, L: GrainLogic>(
     alloc: Global,
     silo: &Silo<S, L>,
+    kinds: u8,
 ) -> Result<Vec<u8>, AllocError>
     requires { entries silo.now.setup.rows ≡ [] }
-    ensures text { IfOk result (λ text. text.items ≡ journal_text (journal_of L.number silo.now)) }
+    ensures text { IfOk result (λ text. text.items ≡ journal_text (journal_of kinds silo.now)) }
 
-    // It is read as that journal again, if each client asked under a number below 2^63.
-    ensures is_journal { All AsksInRange silo.now.journal
-        → IfOk result (λ text. IsJournalText text.items (journal_of L.number silo.now)) }
+    // It is read as that journal again, if a journal may tell the number, and each client asked under a number below 2^63.
+    ensures is_journal { IsKinds kinds → All AsksInRange silo.now.journal
+        → IfOk result (λ text. IsJournalText text.items (journal_of kinds silo.now)) }
 
-    // What is recorded of each tenant is what the tenant's machine does, under the logic that is named.
-    ensures no_difference { (tenant : List ℕ)
-        → IsFirstDifference (logic_of L.number) (journal_of L.number silo.now) tenant None }
+    // What is recorded of each tenant is what the tenant's machine does, under the silo's logic.
+    ensures no_difference { (tenant : List ℕ) → IsFirstDifference L.logic (journal_of kinds silo.now) tenant None }
 {
     let steps = silo.journal();
     let rows = silo.rows(alloc)?;
     let parts = JournalParts {
-        kinds: L::number(),
+        kinds,
         age: silo.age(),
         ages: silo.ages().list(),
         tenants: silo.tenants().list(),

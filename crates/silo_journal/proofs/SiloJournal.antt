@@ -8,32 +8,31 @@ use Rattle.std.specs.Ordering.{is_lt}
 use Rattle.finite_maps.proofs.Ascending.{keys_ascend}
 use Rattle.tenant_gate.specs.Age.{IsAge}
 use Rattle.idle_collector.specs.Ages.{IsTable as AreAges}
+use Rattle.silo_model.specs.Opening.{nothing_kept}
 use Rattle.silo_core.specs.History as silo
 use Rattle.silo_core.specs.inside.Shown.{rows_in}
 use Rattle.silo_core.proofs.Opened.{rows_again}
-use Rattle.grain_kinds.specs.Kinds.{logic_of}
 use Rattle.journal_text.specs.Rules.{AsksInRange, IsInRange, IsKinds, IsTable, are_ascending, comes_after}
 use Rattle.audit_model.specs.Parts.{setup_of}
 use Rattle.audit_model.specs.Report.{IsFirstDifference}
 use Rattle.audit_model.proofs.Numbers.{numbers_in_range}
 use Rattle.audit_model.proofs.Reports.{no_difference}
-use Rattle.tenant_audit.specs.SiloJournal.{journal_of}
+use Rattle.silo_journal.specs.SiloJournal.{journal_of}
 
 no_rows : (rows : Rows) → map.entries rows ≡ [] → rows ≡ map.empty
 no_rows rows none = sym (rows_again rows) ∙ ap rows_in none
 
-opened_so : (kinds : ℕ) (h : silo.History) → map.entries h.setup.rows ≡ [] → h.setup ≡ setup_of (journal_of kinds h)
-opened_so kinds h none = λ i. record { tenants = h.setup.tenants; age = h.setup.age; ages = h.setup.ages; rows = no_rows h.setup.rows none i }
+opened_so : (kinds : ℕ) (h : silo.History) → map.entries h.setup.rows ≡ [] → h.setup.kept ≡ nothing_kept → h.setup ≡ setup_of (journal_of kinds h)
+opened_so kinds h none new = λ i. record { tenants = h.setup.tenants; age = h.setup.age; ages = h.setup.ages; rows = no_rows h.setup.rows none i; kept = new i }
 
-leads_so : (logic : Logic) (kinds : ℕ) (h : silo.History) → map.entries h.setup.rows ≡ [] → LeadsTo logic h.setup h.journal h.whole
+leads_so : (logic : Logic) (kinds : ℕ) (h : silo.History) → map.entries h.setup.rows ≡ [] → h.setup.kept ≡ nothing_kept → LeadsTo logic h.setup h.journal h.whole
     → LeadsTo logic (setup_of (journal_of kinds h)) h.journal h.whole
-leads_so logic kinds h none leads = subst (λ (s : Setup). LeadsTo logic s h.journal h.whole) (opened_so kinds h none) leads
+leads_so logic kinds h none new leads = subst (λ (s : Setup). LeadsTo logic s h.journal h.whole) (opened_so kinds h none new) leads
 
--- what the silo's logic did is what the logic that the journal names does, which is the same
-pub own_journal : (logic : Logic) (kinds : ℕ) (h : silo.History) (tenant : List ℕ) → logic_of kinds ≡ logic → map.entries h.setup.rows ≡ [] → LeadsTo logic h.setup h.journal h.whole → IsFirstDifference (logic_of kinds) (journal_of kinds h) tenant None
-own_journal logic kinds h tenant named none leads =
-    subst (λ (l : Logic). IsFirstDifference l (journal_of kinds h) tenant None) (sym named)
-    (no_difference logic (journal_of kinds h) h.whole tenant (leads_so logic kinds h none leads) (record { replies = refl; rows = refl }))
+-- what the silo's logic did is what is recorded
+pub own_journal : (logic : Logic) (kinds : ℕ) (h : silo.History) (tenant : List ℕ) → map.entries h.setup.rows ≡ [] → h.setup.kept ≡ nothing_kept → LeadsTo logic h.setup h.journal h.whole → IsFirstDifference logic (journal_of kinds h) tenant None
+own_journal logic kinds h tenant none new leads =
+    no_difference logic (journal_of kinds h) h.whole tenant (leads_so logic kinds h none new leads) (record { replies = refl; rows = refl })
 
 -- ---- what no type keeps
 
@@ -49,13 +48,13 @@ unfolding IsStrictlySortedBy
 all_ascend [] sorted = refl
 all_ascend (row ∷ rows) sorted = rest_ascends row.0 rows sorted.0 sorted.1
 
-pub in_range : (logic : Logic) (kinds : ℕ) (h : silo.History) → map.entries h.setup.rows ≡ [] → LeadsTo logic h.setup h.journal h.whole
+pub in_range : (logic : Logic) (kinds : ℕ) (h : silo.History) → map.entries h.setup.rows ≡ [] → h.setup.kept ≡ nothing_kept → LeadsTo logic h.setup h.journal h.whole
     → IsKinds kinds → IsAge h.setup.age → AreAges h.setup.ages → IsTable h.setup.tenants → All AsksInRange h.journal → IsInRange (journal_of kinds h)
-in_range logic kinds h none leads named aged ages table asked = record {
+in_range logic kinds h none new leads named aged ages table asked = record {
   kinds = named;
   age = aged;
   ages = ages;
   is_table = table;
-  numbers = numbers_in_range logic (journal_of kinds h) h.whole (leads_so logic kinds h none leads) (record { replies = refl; rows = refl }) asked;
+  numbers = numbers_in_range logic (journal_of kinds h) h.whole (leads_so logic kinds h none new leads) (record { replies = refl; rows = refl }) asked;
   ascending = all_ascend (map.entries h.whole.rows) (keys_ascend grain_cmp h.whole.rows);
 }
