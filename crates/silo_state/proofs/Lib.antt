@@ -19,3 +19,5 @@ pub mod Versions
 pub mod Works
 pub mod Walks
 pub mod Pendings
+pub mod KeptGrains
+pub mod NothingKept

@@ -9,4 +9,5 @@ pub mod Closings
 pub mod Status
 pub mod Work
 pub mod AtOnce
+pub mod KeptParts
 pub mod inside

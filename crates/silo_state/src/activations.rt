@@ -21,6 +21,7 @@ use tenant_gate::Age;
 mod accept;
 mod close;
 mod idle;
+mod kept;
 mod sweep;
 mod walk;
 

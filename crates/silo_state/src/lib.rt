@@ -15,6 +15,7 @@ pub mod arrival;
 pub mod change;
 mod closing;
 pub mod finding;
+mod parts;
 pub mod reading;
 mod state;
 pub mod status;
@@ -24,4 +25,5 @@ mod values;
 mod version;
 
 pub use change::PossibleStep;
+pub use parts::{GrainParts, KeptParts};
 pub use state::SiloState;

@@ -19,6 +19,7 @@ mod at_once;
 mod call;
 mod clock;
 mod entry;
+mod kept;
 mod send;
 mod step;
 mod store;
@@ -50,7 +51,7 @@ impl<S: GrainStorage, L: GrainLogic> Model for SiloState<S, L> {
 }
 
 /// The moment at which the clock begins.
-fn beginning() -> Moment
+pub(crate) fn beginning() -> Moment
     ensures { result ≡ 0 }
 {
     match Moment::new(0) {
