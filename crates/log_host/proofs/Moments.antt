@@ -34,7 +34,7 @@ pub lines_append : (batches others : List Batch) → lines_of (batches ++ others
 lines_append [] others = refl
 lines_append (batch ∷ batches) others = ap (λ l. batch.lines ++ l) (lines_append batches others) ∙ sym (append_assoc batch.lines (lines_of batches) (lines_of others))
 
-are_append : (batches : List Batch) (batch : Batch) → AreBatches batches → IsBatch batch → AreBatches (batches ++ batch ∷ [])
+pub are_append : (batches : List Batch) (batch : Batch) → AreBatches batches → IsBatch batch → AreBatches (batches ++ batch ∷ [])
 are_append [] batch are is = (is, tt)
 are_append (b ∷ batches) batch are is = (are.0, are_append batches batch are.1 is)
 
@@ -71,10 +71,10 @@ module _ (log : Log) (name : List ℕ) (h : Held) (sum : ℕ) (batch text : List
   abbrev pub bytes : List ℕ
   bytes = batch_text own_sums log.name sum (record { lines = a.lines; told = spelled all })
 
-  is_batch : IsBatch (record { lines = a.lines; told = spelled all })
+  pub is_batch : IsBatch (record { lines = a.lines; told = spelled all })
   is_batch = (a.are, (length-spelled all, spells_plain all))
 
-  read_then : recovered own_sums log.name log.first (h.file ++ bytes) ≡ a.settled.batches ++ record { lines = a.lines; told = spelled all } ∷ []
+  pub read_then : recovered own_sums log.name log.first (h.file ++ bytes) ≡ a.settled.batches ++ record { lines = a.lines; told = spelled all } ∷ []
   read_then =
       let b : Batch = record { lines = a.lines; told = spelled all } in
       ap (λ l. recovered own_sums log.name log.first (l ++ bytes)) a.settled.file
@@ -83,7 +83,7 @@ module _ (log : Log) (name : List ℕ) (h : Held) (sum : ℕ) (batch text : List
       ∙ ap (λ l. a.settled.batches ++ recovered own_sums log.name sum l) (sym (append-nil bytes))
       ∙ ap (λ l. a.settled.batches ++ l) (batch_on own_sums log.name spells_plain a.plain sum b [] is_batch)
 
-  read_now : recovered own_sums log.name log.first h.file ≡ a.settled.batches
+  pub read_now : recovered own_sums log.name log.first h.file ≡ a.settled.batches
   read_now =
       ap (recovered own_sums log.name log.first) a.settled.file
       ∙ written_whole own_sums log.name spells_plain a.plain log.first a.settled.batches a.settled.are

@@ -53,3 +53,15 @@ abbrev pub TellsPart : Option (List Act) → Option (List Act) → Option (List 
 TellsPart old new before after bytes =
     (Adds old new [] × Keeps before after)
     ⊎ ((k : ℕ) × Adds old new (told (take k bytes) ∷ []) × WrittenInPart before after (take k bytes))
+
+-- what acts write at the log's end
+abbrev pub written_by : List Act → List ℕ
+written_by [] = []
+written_by (wrote bytes ∷ acts) = bytes ++ written_by acts
+written_by (synced ∷ acts) = written_by acts
+written_by (told bytes ∷ acts) = written_by acts
+
+-- Of these bytes the first were written at the log's end, or all, and nothing else was; of acts that aren't known nothing is said.
+abbrev pub Puts : Option (List Act) → Option (List Act) → List ℕ → Type 0
+Puts None new bytes = Unit {0}
+Puts (Some old) new bytes = (more : List Act) × (new ≡ Some (old ++ more)) × IsPrefixOf (written_by more) bytes

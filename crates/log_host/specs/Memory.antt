@@ -1,5 +1,5 @@
 -- What a log in memory noted, as acts, and which of its calls fails.
-use Rattle.std.specs.Prelude.{ℕ, zero, suc, ◌-◌, ◌==◌, Bool, List, map}
+use Rattle.std.specs.Prelude.{◌-◌, ◌==◌, Bool, List, map}
 use Rattle.log_host.specs.declared.memory.Did.{Did}
 use Rattle.log_host.specs.declared.memory.Did.TheVariants.{Wrote, Synced, Told}
 use Rattle.log_host.specs.declared.memory.Fuse.{Fuse}

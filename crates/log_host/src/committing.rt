@@ -6,7 +6,7 @@ ghost use Rattle.line_protocol.specs.LineRuns.{WrittenInPart};
 ghost use Rattle.log_text.specs.Lines.{ended};
 ghost use Rattle.log_text.specs.Batches.{mark_behind, sum_behind};
 ghost use Rattle.log_text.specs.Sums.{after, own_sums, spelled};
-ghost use Rattle.log_host.specs.Acts.{Act, Adds, Held, synced, told, wrote};
+ghost use Rattle.log_host.specs.Acts.{Act, Adds, Held, Puts, synced, told, wrote};
 ghost use Rattle.log_host.specs.Lasting.{IsAsked, LastsFrom, Log, SettlesFrom};
 
 use crate::host::{HostFault, LogHost};
@@ -56,6 +56,10 @@ pub fn commit<H: LogHost, W: Write>(
     ensures order { IfOk result (λ next. Adds (H.acts host.old) (H.acts host.new)
         (wrote (batch.old.items ++ ended (mark_behind own_sums place.name place.sum batch.old.items (spelled next.told)))
         ∷ synced ∷ told text.now ∷ [])) }
+
+    // In every outcome nothing else is written, and that in order: its first bytes, or all.
+    ensures puts { Puts (H.acts host.old) (H.acts host.new) (batch.old.items
+        ++ ended (mark_behind own_sums place.name place.sum batch.old.items (spelled (after place.told text.now)))) }
 
     // At each moment of the call, whatever a crash leaves, what was told is the beginning of what that log answers.
     ensures lasts { (log : Log) (h : Held) (acts : List Act) → H.acts host.old ≡ Some acts

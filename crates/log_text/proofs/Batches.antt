@@ -1,5 +1,5 @@
 -- The first batch of some bytes, as far as it is read.
-use Rattle.std.proofs.Common.{◌≡◌, ◌==◌, ◌∙◌, Bool, true, false, true≢false, cond, List, [], ◌∷◌, ◌++◌, ◌-◌, length, take, drop, map, append_assoc, refl, ap, sym, ℕ}
+use Rattle.std.proofs.Common.{◌≡◌, ◌==◌, ◌∙◌, Bool, true, false, true≢false, cond, List, [], ◌∷◌, ◌++◌, length, drop, map, append_assoc, refl, ap, sym, ℕ, None}
 use Rattle.std.proofs.lemmas.Bool.{eqb-true}
 use Rattle.std.proofs.lemmas.List.{append-nil}
 use Rattle.std.proofs.lemmas.Grind.{flat_map-append}
@@ -7,8 +7,7 @@ use Rattle.log_text.specs.Lines.{ArePlain, HasNoBreak, ended, tag_of, whole_line
 use Rattle.log_text.specs.Sums.{own_sums}
 use Rattle.log_text.specs.Batches.{Batch, line_text, lines_text, mark_behind, mark_line, sum_behind, sum_of}
 use Rattle.log_text.specs.Reading.{IsBehind, asked_lines, batches_in, closed, fits, next_of, recovered, told_in}
-use Rattle.log_text.specs.Answers.{SoFar}
-use Rattle.log_text.proofs.CutBytes.{before_end}
+use Rattle.log_text.specs.Answers.{AllAsked, Closes, IsPart, SoFar}
 use Rattle.log_text.proofs.Lines.{no_line, one_ended, one_line}
 use Rattle.log_text.proofs.Marks.{told_sized}
 use Rattle.log_text.proofs.Stands.{same_from_text}
@@ -49,22 +48,15 @@ one_more bytes rest line behind so plain is asked =
           ∙ ap (λ l. l ++ behind) (ap (λ l. lines_text so.lines ++ l) (sym (append-nil more)) ∙ sym (flat_map-append line_text so.lines (drop 1 line ∷ [])));
     }
 
-module _ (name : List ℕ) (sum : ℕ) where
+module _ (name : List ℕ) (sum : ℕ) (bytes : List ℕ) where
   -- what is read of the bytes is read of what is left
-  read_so_far : (bytes rest : List ℕ) (so : SoFar bytes rest) → recovered own_sums name sum bytes ≡ batches_in own_sums name sum so.lines (whole_lines rest)
-  read_so_far bytes rest so = ap (recovered own_sums name sum) so.text ∙ lines_on own_sums name so.lines sum [] rest so.plain
+  read_so_far : (lines : List (List ℕ)) (rest : List ℕ) → ArePlain lines → bytes ≡ lines_text lines ++ rest
+      → recovered own_sums name sum bytes ≡ batches_in own_sums name sum lines (whole_lines rest)
+  read_so_far lines rest plain is = ap (recovered own_sums name sum) is ∙ lines_on own_sums name lines sum [] rest plain
 
-  pub ends_there : (bytes rest : List ℕ) → SoFar bytes rest → HasNoBreak rest → recovered own_sums name sum bytes ≡ []
-  ends_there bytes rest so plain = read_so_far bytes rest so ∙ ap (batches_in own_sums name sum so.lines) (no_line rest plain)
-
-  -- the bytes that were asked
-  pub asked_bytes : (bytes rest : List ℕ) (so : SoFar bytes rest) → take (length bytes - length rest) bytes ≡ lines_text so.lines
-  asked_bytes bytes rest so = before_end bytes (lines_text so.lines) rest so.text
-
-  at_line : (bytes rest line behind : List ℕ) (so : SoFar bytes rest) → HasNoBreak line → rest ≡ line ++ 10 ∷ behind
-      → recovered own_sums name sum bytes ≡ batches_in own_sums name sum so.lines (line ∷ whole_lines behind)
-  at_line bytes rest line behind so plain is =
-      read_so_far bytes rest so ∙ ap (batches_in own_sums name sum so.lines) (ap whole_lines is ∙ one_line line behind plain)
+  pub ends_there : AllAsked bytes → recovered own_sums name sum bytes ≡ []
+  ends_there all =
+      read_so_far all.so.lines all.rest all.so.plain all.so.text ∙ ap (batches_in own_sums name sum all.so.lines) (no_line all.rest all.plain)
 
   no_mark : (lines others : List (List ℕ)) (line : List ℕ) (c d : Bool) → c ≡ false → d ≡ false
       → cond c (batches_in own_sums name sum (lines ++ drop 1 line ∷ []) others)
@@ -77,42 +69,42 @@ module _ (name : List ℕ) (sum : ℕ) where
   by_test true none = absurd (none refl)
   by_test false none = refl
 
-  -- the line is neither asked nor a mark of those before it
-  pub faulty_there : (bytes rest line behind : List ℕ) → SoFar bytes rest → HasNoBreak line → rest ≡ line ++ 10 ∷ behind → (tag_of line == 43) ≡ false
-      → ((told : List ℕ) → length told ≡ 16 → line ≡ mark_behind own_sums name sum (take (length bytes - length rest) bytes) told → ⊥)
-      → recovered own_sums name sum bytes ≡ []
-  faulty_there bytes rest line behind so plain is other none =
-      let asked = asked_bytes bytes rest so in
-      at_line bytes rest line behind so plain is
-      ∙ no_mark so.lines (whole_lines behind) line (tag_of line == 43) (fits own_sums name sum so.lines line) other
-      (by_test (fits own_sums name sum so.lines line) (λ fit.
-      let same = same_from_text line (mark_line own_sums name sum (closed own_sums name so.lines line)) fit in
-      none (told_in own_sums name (length (lines_text so.lines)) line) (told_sized own_sums name line sum so.lines same) (same ∙ ap (λ a. mark_behind own_sums name sum a (told_in own_sums name (length (lines_text so.lines)) line)) (sym asked))))
+  module _ (asked line behind : List ℕ) (part : IsPart bytes asked line behind) where
+    at_line : recovered own_sums name sum bytes ≡ batches_in own_sums name sum part.lines (line ∷ whole_lines behind)
+    at_line =
+        read_so_far part.lines (line ++ 10 ∷ behind) part.are (part.bytes_are ∙ ap (λ l. l ++ (line ++ 10 ∷ behind)) part.text)
+        ∙ ap (batches_in own_sums name sum part.lines) (one_line line behind part.plain)
 
-  -- the line is their mark
-  pub batch_there : (bytes rest line behind told : List ℕ) (next : ℕ) → SoFar bytes rest → HasNoBreak line → rest ≡ line ++ 10 ∷ behind
-      → line ≡ mark_behind own_sums name sum (take (length bytes - length rest) bytes) told → length told ≡ 16
-      → next ≡ sum_behind own_sums name sum (take (length bytes - length rest) bytes) told
-      → IsBehind own_sums name sum bytes (next_of (take (length bytes - length rest) bytes) told next behind)
-  batch_there bytes rest line behind told next so plain is marks sized added =
-      let taken : List ℕ = take (length bytes - length rest) bytes in
-      let asked : taken ≡ lines_text so.lines = asked_bytes bytes rest so in
-      let lines : so.lines ≡ asked_lines taken = sym (ap asked_lines asked ∙ asked_again so.lines so.plain) in
-      let mine : lines_text (asked_lines taken) ≡ taken = ap lines_text (sym lines) ∙ sym asked in
-      let batch : Batch = record { lines = asked_lines taken; told = told } in
-      let mark : line ≡ mark_line own_sums name sum batch = marks ∙ ap (λ a. mark_behind own_sums name sum a told) (sym mine) in
-      let same : next ≡ sum_of own_sums name sum batch = added ∙ ap (λ a. sum_behind own_sums name sum a told) (sym mine) in
-      record {
-        text =
-            so.text
-            ∙ ap (λ l. l ++ rest) (sym asked ∙ sym mine)
-            ∙ ap (λ l. lines_text batch.lines ++ l) (is ∙ sym (append_assoc line (10 ∷ []) behind) ∙ ap (λ l. ended l ++ behind) mark)
-            ∙ sym (append_assoc (lines_text batch.lines) (ended (mark_line own_sums name sum batch)) behind);
-        next = same;
-        read =
-            at_line bytes rest line behind so plain is
-            ∙ ap (λ ls. batches_in own_sums name sum ls (line ∷ whole_lines behind)) lines
-            ∙ ap (λ l. batches_in own_sums name sum batch.lines (l ∷ whole_lines behind)) mark
-            ∙ marked own_sums name sum batch (whole_lines behind) sized
-            ∙ ap (λ n. batch ∷ recovered own_sums name n behind) (sym same);
-      }
+    -- the line is neither asked nor a mark of those before it
+    pub faulty_there : Closes name sum asked line None → recovered own_sums name sum bytes ≡ []
+    faulty_there none =
+        at_line
+        ∙ no_mark part.lines (whole_lines behind) line (tag_of line == 43) (fits own_sums name sum part.lines line) part.other
+        (by_test (fits own_sums name sum part.lines line) (λ fit.
+        let same = same_from_text line (mark_line own_sums name sum (closed own_sums name part.lines line)) fit in
+        none (told_in own_sums name (length (lines_text part.lines)) line) (told_sized own_sums name line sum part.lines same) (same ∙ ap (λ a. mark_behind own_sums name sum a (told_in own_sums name (length (lines_text part.lines)) line)) (sym part.text))))
+
+    -- the line is their mark
+    pub batch_there : (told : List ℕ) (next : ℕ)
+        → (line ≡ mark_behind own_sums name sum asked told) × (length told ≡ 16) × (next ≡ sum_behind own_sums name sum asked told)
+        → IsBehind own_sums name sum bytes (next_of asked told next behind)
+    batch_there told next closes =
+        let lines : part.lines ≡ asked_lines asked = sym (ap asked_lines part.text ∙ asked_again part.lines part.are) in
+        let mine : lines_text (asked_lines asked) ≡ asked = ap lines_text (sym lines) ∙ sym part.text in
+        let batch : Batch = record { lines = asked_lines asked; told = told } in
+        let marks : line ≡ mark_line own_sums name sum batch = closes.0 ∙ ap (λ a. mark_behind own_sums name sum a told) (sym mine) in
+        let same : next ≡ sum_of own_sums name sum batch = closes.2 ∙ ap (λ a. sum_behind own_sums name sum a told) (sym mine) in
+        record {
+          text =
+              part.bytes_are
+              ∙ ap (λ l. l ++ (line ++ 10 ∷ behind)) (sym mine)
+              ∙ ap (λ l. lines_text batch.lines ++ l) (sym (append_assoc line (10 ∷ []) behind) ∙ ap (λ l. ended l ++ behind) marks)
+              ∙ sym (append_assoc (lines_text batch.lines) (ended (mark_line own_sums name sum batch)) behind);
+          next = same;
+          read =
+              at_line
+              ∙ ap (λ ls. batches_in own_sums name sum ls (line ∷ whole_lines behind)) lines
+              ∙ ap (λ l. batches_in own_sums name sum batch.lines (l ∷ whole_lines behind)) marks
+              ∙ marked own_sums name sum batch (whole_lines behind) closes.1
+              ∙ ap (λ n. batch ∷ recovered own_sums name n behind) (sym same);
+        }

@@ -1,9 +1,8 @@
 -- What the parts of the reader answer.
-use Rattle.std.specs.Prelude.{◌≡◌, ℕ, List, [], ◌∷◌, ◌++◌, length, ◌+◌, ◌≤◌, Option, Some, None}
-use Rattle.log_text.specs.Lines.{HasNoBreak}
+use Rattle.std.specs.Prelude.{◌≡◌, ◌==◌, false, ℕ, List, [], ◌∷◌, ◌++◌, length, ◌+◌, ◌≤◌, Option, Some, None}
+use Rattle.log_text.specs.Lines.{ArePlain, HasNoBreak, tag_of}
 use Rattle.log_text.specs.Sums.{own_sums}
 use Rattle.log_text.specs.Batches.{lines_text, mark_behind, mark_start, sum_behind}
-use Rattle.log_text.specs.Lines.{ArePlain}
 use Rattle.log_text.specs.Reading.{asked_lines}
 
 -- Behind the prefix this stands; or the bytes don't begin with it.
@@ -32,6 +31,26 @@ pub record SoFar (bytes rest : List ℕ) : Type 0 where
   pub lines : List (List ℕ)
   pub plain : ArePlain lines
   pub text : bytes ≡ lines_text lines ++ rest
+
+-- All whole lines were asked, and this is left.
+pub record AllAsked (bytes : List ℕ) : Type 0 where
+  pub rest : List ℕ
+  pub plain : HasNoBreak rest
+  pub so : SoFar bytes rest
+
+-- The bytes of the first lines that were asked, the line behind them, which wasn't, and what stands behind its LF.
+pub record IsPart (bytes asked line behind : List ℕ) : Type 0 where
+  pub lines : List (List ℕ)
+  pub are : ArePlain lines
+  pub text : asked ≡ lines_text lines
+  pub plain : HasNoBreak line
+  pub other : (tag_of line == 43) ≡ false
+  pub bytes_are : bytes ≡ asked ++ (line ++ 10 ∷ behind)
+
+-- That part; or all were asked.
+abbrev pub CutsAsked : List ℕ → Option (List ℕ × List ℕ × List ℕ) → Type 0
+CutsAsked bytes (Some part) = IsPart bytes part.0 part.1 part.2
+CutsAsked bytes None = AllAsked bytes
 
 -- The first line that was asked, and what stands behind it; or there is none.
 abbrev pub TakesAsked : List ℕ → Option (List ℕ × List ℕ) → Type 0

@@ -5,7 +5,7 @@ ghost use Rattle.log_text.specs.Lines.{tag_of, whole_lines};
 ghost use Rattle.log_text.specs.Sums.{own_sums};
 ghost use Rattle.log_text.specs.Batches.{mark_head, mark_place};
 ghost use Rattle.log_text.specs.Reading.{ReadsBatch, asked_first, asked_lines, fault_in, is_mark, is_placed, marks, may_end, next_of};
-ghost use Rattle.log_text.specs.Answers.{Closes, ReadsMark, Strips, TakesAsked};
+ghost use Rattle.log_text.specs.Answers.{Closes, CutsAsked, ReadsMark, Strips, TakesAsked};
 
 use crate::cuts::{behind, cut_line, is_same};
 use crate::sum::{spell, sum_after_both};
@@ -87,32 +87,41 @@ pub struct NextBatch<'a> {
     pub behind: &'a [u8],
 }
 
-/// The first batch of the bytes, by the sum before it. With none the bytes are the end of the log, which no mark closes.
-pub fn next_batch<'a>(name: &[u8], sum: u64, bytes: &'a [u8]) -> Option<NextBatch<'a>>
-    ensures read { ReadsBatch own_sums name.now sum bytes.now
-        (option_map (λ next. next_of next.asked.now next.told.now next.sum next.behind.now) result) }
-    ensures shorter { IfSome result (λ next. length next.behind.now < length bytes.now) }
+/// The bytes of the first lines that were asked, the line behind them, and what stands behind its LF.
+fn asked_part(bytes: &[u8]) -> Option<(&[u8], &[u8], &[u8])>
+    ensures { CutsAsked bytes.now (option_map (λ part. (part.0.now, part.1.now, part.2.now)) result) }
 {
     let mut rest = bytes;
     'lines: loop {
         let Some((line, behind)) = cut_line(rest) else {
             return None;
         };
-        if is_asked(line) {
-            rest = behind;
-        } else {
-            let asked = &bytes[..bytes.len() - rest.len()];
-            let Some((told, sum)) = close(name, sum, asked, line) else {
-                return None;
-            };
-            return Some(NextBatch {
-                asked,
-                told,
-                sum,
-                behind,
-            });
+        if !is_asked(line) {
+            return Some((&bytes[..bytes.len() - rest.len()], line, behind));
         }
+        rest = behind;
     }
+}
+
+/// The first batch of the bytes, by the sum before it. With none the bytes are the end of the log, which no mark closes.
+#[tactic(auto, using(crate::proofs::Batches::ends_there, crate::proofs::Batches::faulty_there))]
+pub fn next_batch<'a>(name: &[u8], sum: u64, bytes: &'a [u8]) -> Option<NextBatch<'a>>
+    ensures read { ReadsBatch own_sums name.now sum bytes.now
+        (option_map (λ next. next_of next.asked.now next.told.now next.sum next.behind.now) result) }
+    ensures shorter { IfSome result (λ next. length next.behind.now < length bytes.now) }
+{
+    let Some((asked, line, behind)) = asked_part(bytes) else {
+        return None;
+    };
+    let Some((told, sum)) = close(name, sum, asked, line) else {
+        return None;
+    };
+    Some(NextBatch {
+        asked,
+        told,
+        sum,
+        behind,
+    })
 }
 
 /// The first line that was asked of a batch's bytes, and those behind it.

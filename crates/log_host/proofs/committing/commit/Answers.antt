@@ -1,8 +1,8 @@
-use Rattle.std.proofs.Common.{◌∙◌, [], ◌∷◌, ◌++◌, sym, subst}
-use Rattle.log_host.specs.Acts.{told, wrote}
+use Rattle.std.proofs.Common.{◌∙◌, [], ◌∷◌, refl, sym, subst}
+use Rattle.log_host.specs.Acts.{synced, told, wrote}
 use Rattle.log_host.specs.Lasting.{SettlesFrom}
 use Rattle.std.proofs.KnownBytes.{Keeps-refl}
-use Rattle.log_host.proofs.Known.{known, known_part, known_telling, none_written, on_err, told_part}
+use Rattle.log_host.proofs.Known.{added, all_there, known, known_part, known_telling, none_written, on_err, puts_none, puts_part, puts_telling, puts_whole, told_part}
 use Rattle.log_host.proofs.Moments.{all_told, nothing_done, partly_told, partly_written, put_and_synced, settles, written, written_sum}
 use Rattle.log_host.proofs.committing.commit.Goals as goal
 
@@ -52,3 +52,29 @@ returns-in_err-sync-clause-part g c = on_err _ _ (none_written _ _ _ (Keeps-refl
 
 pub returns-in_err-tell-clause-part : goal.returns-in_err-tell-clause-part
 returns-in_err-tell-clause-part g c = on_err _ _ (told_part _ _ _ _ _ c.in_err-tell.ensures.err)
+
+-- what was written of it
+
+pub returns-in_default-clause-puts : goal.returns-in_default-clause-puts
+returns-in_default-clause-puts g c = puts_none _ _
+
+pub returns-in_err-append-clause-puts : goal.returns-in_err-append-clause-puts
+returns-in_err-append-clause-puts g c =
+    let made = c.as_slice.ensures.value ∙ c.in-Ok.ensures.ok ∙ all_there _ _ _ _ _ c.sum_after-all.ensures in
+    puts_part _ _ _ _ made c.in_err-append.ensures.err
+
+pub returns-in_err-sync-clause-puts : goal.returns-in_err-sync-clause-puts
+returns-in_err-sync-clause-puts g c =
+    let made = c.as_slice.ensures.value ∙ c.in-Ok.ensures.ok ∙ all_there _ _ _ _ _ c.sum_after-all.ensures in
+    puts_whole _ _ _ _ _ [] made c.in_ok-append.ensures.ok c.in_err-sync.ensures.err refl
+
+pub returns-in_err-tell-clause-puts : goal.returns-in_err-tell-clause-puts
+returns-in_err-tell-clause-puts g c =
+    let made = c.as_slice.ensures.value ∙ c.in-Ok.ensures.ok ∙ all_there _ _ _ _ _ c.sum_after-all.ensures in
+    puts_telling _ _ _ _ _ _ _ _ _ made c.in_ok-append.ensures.ok c.in_ok-sync.ensures.ok c.in_err-tell.ensures.err
+
+pub returns-clause-puts : goal.returns-clause-puts
+returns-clause-puts g c =
+    let made = c.as_slice.ensures.value ∙ c.in-Ok.ensures.ok ∙ all_there _ _ _ _ _ c.sum_after-all.ensures in
+    puts_whole _ _ _ _ _ (synced ∷ told c.args.text.now ∷ []) made c.in_ok-append.ensures.ok
+    (added _ _ _ (synced ∷ []) (told c.args.text.now ∷ []) c.in_ok-sync.ensures.ok c.in_ok-tell.ensures.ok) refl

@@ -1,5 +1,5 @@
 use Rattle.std.proofs.Common.{length}
-use Rattle.log_text.proofs.reader.next_batch.Given as goal
+use Rattle.log_text.proofs.reader.asked_part.Given as goal
 use Rattle.log_text.specs.Answers.{SoFar}
 
 abbrev pub invariant-lines : goal.invariant-lines
