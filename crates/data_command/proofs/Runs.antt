@@ -7,7 +7,10 @@ use Rattle.silo_core.specs.History.{History}
 use Rattle.line_protocol.specs.Lines.{lines_of}
 use Rattle.line_protocol.specs.Reading.{IsFresh, Reading, left_of}
 use Rattle.line_protocol.proofs.LinesOfBytes.{left_of-fresh}
-use Rattle.log_text.specs.Head.{first_sum}
+use Rattle.log_text.specs.Head.{first_sum, name_of}
+use Rattle.log_text.specs.Reading.{left_in}
+use Rattle.log_text.specs.Sums.{own_sums}
+use Rattle.log_text.proofs.Stands.{read_stands}
 use Rattle.log_host.specs.Acts.{Act, Always, Held}
 use Rattle.log_host.specs.Lasting.{Lasts, LastsFrom}
 use Rattle.log_host.specs.Laws.{restarted}
@@ -18,7 +21,7 @@ use Rattle.log_answer.specs.declared.running.LogFault.{LogFault}
 use Rattle.log_answer.specs.declared.running.LogFault.TheVariants as log_fault
 use Rattle.command_parts.specs.Setups.{Start}
 use Rattle.command_parts.specs.declared.failure.Cause.{Cause}
-use Rattle.data_command.specs.Data.{AnswersData, DataFailsBy, DataLasts, HasBehind, HasInput, HasLines, LogView, data_log, since}
+use Rattle.data_command.specs.Data.{AnswersData, CutsLog, DataFailsBy, DataLasts, HasBehind, HasInput, HasLines, LogView, MayCutLog, data_log, since}
 use Rattle.data_command.specs.Words.{head_words}
 use Rattle.data_command.specs.inside.Starts.{IsStarted, running_cause}
 use Rattle.data_command.specs.declared.fault.DataFault.TheVariants as data_fault
@@ -26,6 +29,21 @@ use Rattle.data_command.specs.declared.fault.DataFault.TheVariants as data_fault
 module _ (start : Start) (sends : ℕ) (old mid new : LogView) (place : LogPlace) (silo : History) (st : IsStarted start sends (since old mid) place silo) where
   behind_there : old.acts ≡ Some [] → HasBehind (head_words start sends) st.starts.number old.begun st.starts.bytes
   behind_there e = subst (λ (o : Option (List ℕ)). HasBehind (head_words start sends) st.starts.number o st.starts.bytes) (st.was e) st.starts.behind
+
+  -- the log was cut, and nothing but what is done behind that end was done to it since
+  pub run_cut : (synced : Option (List ℕ)) → synced ≡ mid.begun → new.begun ≡ synced → CutsLog start sends (since old new)
+  run_cut synced same kept e = record {
+    number = st.starts.number;
+    bytes = st.starts.bytes;
+    numbered = st.starts.numbered;
+    behind = behind_there e;
+    off = left_in own_sums (name_of st.starts.number) (first_sum (head_words start sends) st.starts.number) st.starts.bytes;
+    parts = read_stands own_sums (name_of st.starts.number) (first_sum (head_words start sends) st.starts.number) st.starts.bytes;
+    begun = kept ∙ same ∙ st.kept e;
+  }
+
+  pub run_may_cut : (synced : Option (List ℕ)) → synced ≡ mid.begun → new.begun ≡ synced → MayCutLog start sends (since old new)
+  run_may_cut synced same kept e = inr (run_cut synced same kept e)
 
   -- at each moment what was told is what the log answers
   pub run_lasts : (synced : Option (List Act)) → synced ≡ mid.acts

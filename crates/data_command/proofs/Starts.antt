@@ -1,6 +1,8 @@
 -- What a start makes of a log.
-use Rattle.std.proofs.Common.{◌≡◌, ◌<◌, ◌++◌, ◌+◌, ◌-◌, ◌∙◌, ℕ, Bool, Err, Ok, OnErr, OnOk, Result, false, true, true≢false, List, [], ◌∷◌, length, take, Option, None, Some, inl, inr, refl, sym, ap, subst, ◌⊎◌, zero, suc, arith, append-nil, length-append}
+use Rattle.std.proofs.Common.{◌≡◌, ◌≤◌, ◌++◌, ◌+◌, ◌-◌, ◌∙◌, ℕ, Bool, Err, Ok, OnErr, OnOk, Result, false, true, true≢false, List, [], ◌∷◌, length, take, Option, None, Some, inl, inr, refl, sym, ap, subst, ◌⊎◌, zero, suc, arith, append-nil, take_all}
 use Rattle.std.specs.Result.{is_err}
+use Rattle.std.proofs.lemmas.List.{length-append}
+use Rattle.std.proofs.lemmas.Option.{same_Some}
 use Rattle.grain_logic.specs.Logic.{Logic}
 use Rattle.silo_model.specs.Opening.{opening}
 use Rattle.silo_model.specs.Whole.{Whole, shown_to}
@@ -13,11 +15,12 @@ use Rattle.log_text.specs.Lines.{HasNoBreak, whole_lines}
 use Rattle.log_text.specs.Head.{IsNumber, first_sum, head_text, name_of}
 use Rattle.log_text.specs.Sums.{own_sums, spelled}
 use Rattle.log_text.specs.Batches.{Batch, log_text}
-use Rattle.log_text.specs.Reading.{left_in, lines_of}
+use Rattle.log_text.specs.Reading.{left_in, lines_of, recovered}
 use Rattle.log_text.proofs.CutBytes.{before_end}
 use Rattle.log_text.proofs.Marks.{length-spelled}
 use Rattle.log_text.proofs.Spelled.{spells_plain}
 use Rattle.log_text.proofs.Stands.{read_stands}
+use Rattle.log_host.specs.Acts.{Act}
 use Rattle.log_host.specs.Files.{Begins, Cuts, Finds, IsAt, MayBegin, MayCut}
 use Rattle.log_host.specs.Lasting.{Lasts}
 use Rattle.log_host.specs.Laws.{restarted}
@@ -26,7 +29,7 @@ use Rattle.log_host.proofs.Moments.{settled_lasts}
 use Rattle.log_host.proofs.Starts.{starts_settled}
 use Rattle.log_answer.specs.Answers.{IsLed, heard_of, led, silo_log}
 use Rattle.log_answer.specs.Runs.{GoesOn}
-use Rattle.log_answer.specs.Starts.{AnswersAgain, IsRefused, StopsAgain, TellsOtherwise}
+use Rattle.log_answer.specs.Starts.{AnswersAgain, IsRefused, StopsAgain, TellsOtherwise, kept_length}
 use Rattle.log_answer.specs.declared.starting.Again.{Again}
 use Rattle.log_answer.specs.declared.starting.AgainFault.{AgainFault}
 use Rattle.log_answer.specs.declared.starting.AgainFault.TheVariants as again_why
@@ -34,7 +37,7 @@ use Rattle.log_answer.proofs.Led.{silos_grow}
 use Rattle.log_answer.proofs.Lives.{starts_go_on}
 use Rattle.command_parts.specs.Kept.{opened}
 use Rattle.command_parts.specs.Setups.{Start}
-use Rattle.data_command.specs.Data.{DataLasts, HasBehind, LastsOn, LogView, StartFailsBy, data_log, place_of, since}
+use Rattle.data_command.specs.Data.{DataLasts, HasBehind, IsCut, LastsOn, LogView, MayCutLog, StartFailsBy, data_log, kept_bytes, place_of, since}
 use Rattle.data_command.specs.declared.fault.DataFault.{DataFault}
 use Rattle.data_command.specs.Words.{head_words}
 use Rattle.data_command.specs.inside.Starts.{IsStarted, again_fault}
@@ -55,6 +58,12 @@ spelled_number n = (length-spelled n, spells_plain n)
 
 -- ---- what is kept of a log
 
+-- it isn't longer
+pub uncut : (acts : Option (List Act)) (begun : Option (List ℕ)) (bytes : List ℕ) (k : ℕ) → begun ≡ Some bytes → length bytes ≤ k → Cuts acts begun acts begun k
+uncut acts begun bytes k is none other fresh same =
+    let one : bytes ≡ other = same_Some bytes other (sym is ∙ same) in
+    (fresh, is ∙ ap (λ (bs : List ℕ). Some bs) (sym (take_all k bytes none) ∙ ap (take k) one))
+
 take_front : (kept left : List ℕ) → take (length kept) (kept ++ left) ≡ kept
 take_front [] left = refl
 take_front (b ∷ kept) left = ap (λ (bs : List ℕ). b ∷ bs) (take_front kept left)
@@ -67,10 +76,23 @@ take_kept (b ∷ head) kept left rest is =
     let one : suc (length head) + length kept ≡ suc (length head + length kept) = omega arith in
     ap (λ (k : ℕ). take k (b ∷ (head ++ rest))) one ∙ ap (λ (bs : List ℕ). b ∷ bs) (take_kept head kept left rest is)
 
--- nothing stands behind what is kept
-all_kept : (kept left rest : List ℕ) → kept ++ left ≡ rest → ¬ (length kept < length rest) → rest ≡ kept
-all_kept kept [] rest is none = sym is ∙ append-nil kept
-all_kept kept (b ∷ left) rest is none = absurd (none (subst (λ (bs : List ℕ). length kept < length bs) is (omega (arith, length-append kept (b ∷ left)))))
+-- the head and what is kept are no longer than the log
+pub kept_few : (words number bytes all head : List ℕ) (place : LogPlace) (k : ℕ) → all ≡ head_text words number ++ bytes → head ≡ head_text words number
+    → place ≡ place_of words number → k ≡ kept_length place bytes → length head + k ≤ length all
+kept_few words number bytes all head place k there top is kept =
+    let p = place_of words number in
+    let read = recovered own_sums p.name p.sum bytes in
+    let left = left_in own_sums p.name p.sum bytes in
+    let sized : k ≡ length (log_text own_sums p.name p.sum read) = kept ∙ ap (λ (q : LogPlace). kept_length q bytes) is in
+    omega (
+      arith,
+      sized,
+      ap length top,
+      ap length there,
+      length-append (head_text words number) bytes,
+      ap length (read_stands own_sums p.name p.sum bytes),
+      length-append (log_text own_sums p.name p.sum read) left,
+    )
 
 -- ---- the silo
 
@@ -101,27 +123,42 @@ module _ (start : Start) (sends : ℕ) where
     behind_there : old.acts ≡ Some [] → HasBehind (head_words start sends) number old.begun bytes
     behind_there e = subst (λ (o : Option (List ℕ)). HasBehind (head_words start sends) number o bytes) (finds e).1 refl
 
-    -- it is cut, or not
-    pub cut_fresh : (new : LogView) (k : ℕ) → Cuts mid.acts mid.begun new.acts new.begun k → old.acts ≡ Some [] → new.acts ≡ Some []
-    cut_fresh new k cuts e = (cuts _ (finds e).0.0 (found_there e)).0
+    -- it is cut
+    pub cut_fresh : (new : LogView) (k : ℕ) → (mid.begun ≡ Some (head_text (head_words start sends) number ++ bytes) → Cuts mid.acts mid.begun new.acts new.begun k)
+        → old.acts ≡ Some [] → new.acts ≡ Some []
+    cut_fresh new k cuts e = (cuts (found_there e) _ (finds e).0.0 (found_there e)).0
 
-    -- the batches that were read
-    abbrev kept_file : List ℕ
-    kept_file = (restarted (data_log start sends number) bytes).file
-
-    kept_there : kept_file ++ left_in own_sums (name_of number) (first_sum (head_words start sends) number) bytes ≡ bytes
+    -- to the batches that were read
+    kept_there : kept_bytes start sends number bytes ++ left_in own_sums (name_of number) (first_sum (head_words start sends) number) bytes ≡ bytes
     kept_there = read_stands own_sums (name_of number) (first_sum (head_words start sends) number) bytes
 
-    pub cut_kept : (new : LogView) (k : ℕ) → k ≡ length (head_text (head_words start sends) number) + length (restarted (data_log start sends number) bytes).file → Cuts mid.acts mid.begun new.acts new.begun k
-        → old.acts ≡ Some [] → new.begun ≡ Some (head_text (head_words start sends) number ++ (restarted (data_log start sends number) bytes).file)
-    cut_kept new k is cuts e =
-        (cuts _ (finds e).0.0 (found_there e)).1
-        ∙ ap (λ (j : ℕ). Some (take j (head_text (head_words start sends) number ++ bytes))) is
-        ∙ ap (λ (bs : List ℕ). Some bs) (take_kept (head_text (head_words start sends) number) kept_file _ bytes kept_there)
+    cut_to : (k : ℕ) → k ≡ length (head_text (head_words start sends) number) + length (kept_bytes start sends number bytes)
+        → ◌≡◌ {A = Option (List ℕ)} (Some (take k (head_text (head_words start sends) number ++ bytes))) (Some (head_text (head_words start sends) number ++ kept_bytes start sends number bytes))
+    cut_to k is =
+        ap (λ (j : ℕ). Some (take j (head_text (head_words start sends) number ++ bytes))) is
+        ∙ ap (λ (bs : List ℕ). Some bs) (take_kept (head_text (head_words start sends) number) (kept_bytes start sends number bytes) _ bytes kept_there)
 
-    pub uncut_kept : ¬ (length (restarted (data_log start sends number) bytes).file < length bytes) → old.acts ≡ Some []
-        → mid.begun ≡ Some (head_text (head_words start sends) number ++ (restarted (data_log start sends number) bytes).file)
-    uncut_kept none e = found_there e ∙ ap (λ (bs : List ℕ). Some (head_text (head_words start sends) number ++ bs)) (all_kept kept_file _ bytes kept_there none)
+    pub cut_kept : (new : LogView) (k : ℕ) → k ≡ length (head_text (head_words start sends) number) + length (kept_bytes start sends number bytes)
+        → (mid.begun ≡ Some (head_text (head_words start sends) number ++ bytes) → Cuts mid.acts mid.begun new.acts new.begun k)
+        → old.acts ≡ Some [] → new.begun ≡ Some (head_text (head_words start sends) number ++ kept_bytes start sends number bytes)
+    cut_kept new k is cuts e = (cuts (found_there e) _ (finds e).0.0 (found_there e)).1 ∙ cut_to k is
+
+    -- or it failed
+    pub may_be_cut : (new : LogView) (k : ℕ) → k ≡ length (head_text (head_words start sends) number) + length (kept_bytes start sends number bytes)
+        → MayCut mid.acts mid.begun new.acts new.begun k → MayCutLog start sends (since old new)
+    may_be_cut new k is may e = by (may _ (finds e).0.0 (found_there e))
+      where
+        by : IsAt new.acts new.begun mid.begun ⊎ IsAt new.acts new.begun (Some (take k (head_text (head_words start sends) number ++ bytes))) → (new.begun ≡ old.begun) ⊎ IsCut start sends (since old new)
+        by (inl at) = inl (at.1 ∙ (finds e).0.1)
+        by (inr at) = inr (record {
+          number = number;
+          bytes = bytes;
+          numbered = numbered;
+          behind = behind_there e;
+          off = left_in own_sums (name_of number) (first_sum (head_words start sends) number) bytes;
+          parts = kept_there;
+          begun = at.1 ∙ cut_to k is;
+        })
 
     pub cut_lasts : (new : LogView) (k : ℕ) → MayCut mid.acts mid.begun new.acts new.begun k → DataLasts start sends (since old new)
     cut_lasts new k may e = by (may _ (finds e).0.0 (found_there e))
@@ -139,11 +176,12 @@ module _ (start : Start) (sends : ℕ) where
         })
 
     -- so many bytes they are
-    pub kept_length : (silo then : History) (again : Again) (place : LogPlace) → place ≡ place_of (head_words start sends) number → AnswersAgain start.version.logic sends place bytes silo then again
-        → again.length ≡ length (restarted (data_log start sends number) bytes).file
-    kept_length silo then again place is done =
-        let d = subst (λ (p : LogPlace). AnswersAgain start.version.logic sends p bytes silo then again) is done in
-        d.kept ∙ ap (λ (bs : List Batch). length (log_text own_sums (name_of number) (first_sum (head_words start sends) number) bs)) d.read
+    pub kept_sized : (head : List ℕ) (again : Again) (place : LogPlace) → head ≡ head_text (head_words start sends) number → place ≡ place_of (head_words start sends) number
+        → again.length ≡ kept_length place bytes
+        → length head + again.length ≡ length (head_text (head_words start sends) number) + length (kept_bytes start sends number bytes)
+    kept_sized head again place there is kept =
+        let sized : again.length ≡ length (kept_bytes start sends number bytes) = kept ∙ ap (λ (p : LogPlace). kept_length p bytes) is in
+        λ i. length (there i) + sized i
 
     -- the silo answered its lines again
     pub started_again : (new : LogView) (silo then : History) (again : Again) (place : LogPlace) → silo.setup ≡ start.setup → silo.whole ≡ opening start.setup → place ≡ place_of (head_words start sends) number
@@ -228,6 +266,24 @@ module _ (start : Start) (sends : ℕ) where
     })
 
     -- or it isn't made whole
+    behind_none : old.begun ≡ None → HasBehind (head_words start sends) (spelled n) old.begun []
+    behind_none is = subst (λ (o : Option (List ℕ)). HasBehind (head_words start sends) (spelled n) o []) (sym is) refl
+
+    pub may_be_begun : MayBegin mid.acts mid.begun new.acts new.begun (head_text (head_words start sends) (spelled n)) → MayCutLog start sends (since old new)
+    may_be_begun may e = by (may (finds e).0.0)
+      where
+        by : IsAt new.acts new.begun mid.begun ⊎ IsAt new.acts new.begun (Some (head_text (head_words start sends) (spelled n))) → (new.begun ≡ old.begun) ⊎ IsCut start sends (since old new)
+        by (inl at) = inl (at.1 ∙ (finds e).0.1)
+        by (inr at) = inr (record {
+          number = spelled n;
+          bytes = [];
+          numbered = spelled_number n;
+          behind = behind_none (sym (finds e).1);
+          off = [];
+          parts = refl;
+          begun = at.1 ∙ ap (λ (bs : List ℕ). Some bs) (sym (append-nil (head_text (head_words start sends) (spelled n))));
+        })
+
     pub begun_lasts : MayBegin mid.acts mid.begun new.acts new.begun (head_text (head_words start sends) (spelled n)) → DataLasts start sends (since old new)
     begun_lasts may e = by (may (finds e).0.0)
       where
@@ -237,7 +293,7 @@ module _ (start : Start) (sends : ℕ) where
           number = spelled n;
           bytes = [];
           numbered = spelled_number n;
-          behind = subst (λ (o : Option (List ℕ)). HasBehind (head_words start sends) (spelled n) o []) (finds e).1 refl;
+          behind = behind_none (sym (finds e).1);
           acts = [];
           are = at.0;
           always = lasts_there (spelled n) [] (spelled_number n);

@@ -78,6 +78,10 @@ module _ (start : Start) (sends : ℕ) where
   abbrev pub data_log : List ℕ → Log
   data_log number = silo_log start.version.logic sends (opening start.setup) (name_of number) (first_sum (head_words start sends) number)
 
+  -- what the log of that number has behind its head once it was cut, if these bytes were found there: the batches that are read of them
+  abbrev pub kept_bytes : List ℕ → List ℕ → List ℕ
+  kept_bytes number bytes = (restarted (data_log number) bytes).file
+
   -- The silo is where the lines lead that were found: those of the log's whole batches. Of a new log there are none.
   pub record StartsFrom (found : Option (List ℕ)) (silo : History) : Type 0 where
     pub number : List ℕ
@@ -87,6 +91,27 @@ module _ (start : Start) (sends : ℕ) where
     pub leads : IsLed start.version.logic sends (opened start.setup) (lines_in (data_log number) bytes) silo
 
   module _ (log : LogClaims) where
+    -- ---- what was cut off
+
+    -- Before anything was written to it the log's file had its head and the batches that were found whole, and not one byte more: what
+    -- was found behind them was cut off. If nothing was, the file is as it was found; that of a new log is its head.
+    pub record IsCut : Type 0 where
+      pub number : List ℕ
+      pub bytes : List ℕ
+      pub numbered : IsNumber number
+      pub behind : HasBehind (head_words start sends) number log.old.begun bytes
+      pub off : List ℕ
+      pub parts : kept_bytes number bytes ++ off ≡ bytes
+      pub begun : log.new.begun ≡ Some (head_text (head_words start sends) number ++ kept_bytes number bytes)
+
+    -- the same, if the log is known
+    abbrev pub CutsLog : Type 0
+    CutsLog = log.old.acts ≡ Some [] → IsCut
+
+    -- It was cut, or it is as it was found.
+    abbrev pub MayCutLog : Type 0
+    MayCutLog = log.old.acts ≡ Some [] → (log.new.begun ≡ log.old.begun) ⊎ IsCut
+
     -- ---- what lasts
 
     -- The log goes on behind the batches that were found, and at each moment of the run since: whatever a crash leaves of it, all that was

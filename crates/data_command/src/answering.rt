@@ -4,7 +4,7 @@ ghost use Rattle.std.specs.Prelude.{◌≡◌, [], false, true, IfErr, OnErr, On
 ghost use Rattle.silo_model.specs.Opening.{opening};
 ghost use Rattle.line_protocol.specs.Reading.{IsFresh};
 ghost use Rattle.command_parts.specs.Setups.{started, starting, version_of};
-ghost use Rattle.data_command.specs.Data.{AnswersData, DataFailsBy, DataLasts, HasInput, log_claims};
+ghost use Rattle.data_command.specs.Data.{AnswersData, CutsLog, DataFailsBy, DataLasts, HasInput, MayCutLog, log_claims};
 ghost use Rattle.data_command.specs.Words.{head_words};
 ghost use Rattle.data_command.specs.inside.Starts.{running_cause};
 
@@ -63,6 +63,12 @@ fn answer_on<L: GrainLogic, F: DataFiles, R: Read, W: Write>(
         (log_claims F.begun F.acts F.failed files.old files.new) why
         (R.remaining input.old.reader) (R.remaining input.new.reader) input.new.lines
         (W.contents output.old.writer) (W.contents output.new.writer)) }
+    ensures cut { OnOk result (task.now.folder.sync ≡ true → CutsLog
+        (started (version_of L.logic task.now.kinds) silo.old.history.setup) task.now.sends
+        (log_claims F.begun F.acts F.failed files.old files.new)) }
+    ensures begun { task.now.folder.sync ≡ true → MayCutLog
+        (started (version_of L.logic task.now.kinds) silo.old.history.setup) task.now.sends
+        (log_claims F.begun F.acts F.failed files.old files.new) }
     ensures lasts { task.now.folder.sync ≡ true → DataLasts
         (started (version_of L.logic task.now.kinds) silo.old.history.setup) task.now.sends
         (log_claims F.begun F.acts F.failed files.old files.new) }
@@ -119,6 +125,16 @@ pub fn answer_data<L: GrainLogic + Drop, F: DataFiles, R: Read, W: Write>(
         (log_claims F.begun F.acts F.failed files.old files.new) why
         (R.remaining input.old.reader) (R.remaining input.new.reader) input.new.lines
         (W.contents output.old.writer) (W.contents output.new.writer)) }
+
+    // At the start the log was cut behind its last batch that fits, and nothing before that end was touched.
+    ensures cut { OnOk result (folder.entry.sync ≡ true → CutsLog
+        (starting (version_of L.logic opening.start.kinds) opening.start.tenants opening.start.age opening.start.ages) opening.sends
+        (log_claims F.begun F.acts F.failed files.old files.new)) }
+
+    // In every outcome it was cut there, or it is as it was.
+    ensures begun { folder.entry.sync ≡ true → MayCutLog
+        (starting (version_of L.logic opening.start.kinds) opening.start.tenants opening.start.age opening.start.ages) opening.sends
+        (log_claims F.begun F.acts F.failed files.old files.new) }
 
     // In every outcome, at each moment: whatever a crash leaves of the log, what was told is the beginning of what that log answers.
     ensures lasts { folder.entry.sync ≡ true → DataLasts

@@ -5,9 +5,9 @@ ghost use Rattle.silo_model.specs.Opening.{opening};
 ghost use Rattle.log_text.specs.Head.{head_text};
 ghost use Rattle.log_text.specs.Lines.{whole_lines};
 ghost use Rattle.log_text.specs.Sums.{spelled};
-ghost use Rattle.log_host.specs.Files.{Begins, Finds, MayBegin};
+ghost use Rattle.log_host.specs.Files.{Begins, Cuts, Finds, MayBegin, MayCut};
 ghost use Rattle.command_parts.specs.Setups.{started, version_of};
-ghost use Rattle.data_command.specs.Data.{DataLasts, LogView, StartFailsBy, log_claims, log_view, place_of, since};
+ghost use Rattle.data_command.specs.Data.{DataLasts, LogView, MayCutLog, StartFailsBy, log_claims, log_view, place_of, since};
 ghost use Rattle.data_command.specs.Words.{head_words};
 ghost use Rattle.data_command.specs.inside.Starts.{IsStarted, again_fault, opening_cause};
 
@@ -17,7 +17,7 @@ use grain_logic::GrainLogic;
 use grain_storage::MemoryStorage;
 use line_answer::AnsweringSilo;
 use log_answer::{AgainFault, answer_again};
-use log_host::{LogPlace, OpenFault};
+use log_host::{HostFault, LogPlace, OpenFault};
 use log_text::{cut_head, is_log, push_head, spell};
 use silo_words::Data;
 use std::alloc::Global;
@@ -94,6 +94,20 @@ fn again_fault(head: &[u8], fault: AgainFault) -> DataFault
     }
 }
 
+/// Cuts a log that has these bytes to its first ones, so many, if there are more.
+#[tactic(auto, using(crate::proofs::Starts::uncut))]
+fn cut_end<F: DataFiles>(files: &mut F, bytes: &[u8], length: usize) -> Result<(), HostFault>
+    ensures ok { F.begun files.old ≡ Some bytes.now
+        → OnOk result (Cuts (F.acts files.old) (F.begun files.old) (F.acts files.new) (F.begun files.new) length) }
+    ensures err { OnErr result (MayCut (F.acts files.old) (F.begun files.old) (F.acts files.new) (F.begun files.new) length) }
+    ensures failed { OnErr result (F.failed files.new ≡ true) }
+{
+    if length < bytes.len() {
+        return files.keep(length);
+    }
+    Ok(())
+}
+
 /// Answers the lines of a log again, and cuts off what stands behind its last batch.
 fn resume_log<F: DataFiles, L: GrainLogic>(
     alloc: Global,
@@ -113,6 +127,10 @@ fn resume_log<F: DataFiles, L: GrainLogic>(
     ensures fault { (old : LogView) → Finds old.acts old.begun (F.acts files.old) (F.begun files.old) (Some bytes.now)
         → IfErr result (λ why. StartFailsBy (started (version_of L.logic task.now.kinds) silo.old.history.setup) task.now.sends
         (since old (log_view F.begun F.acts F.failed files.new)) why) }
+    ensures cut { (old : LogView) → Finds old.acts old.begun (F.acts files.old) (F.begun files.old) (Some bytes.now)
+        → OnErr result (MayCutLog
+        (started (version_of L.logic task.now.kinds) silo.old.history.setup) task.now.sends
+        (since old (log_view F.begun F.acts F.failed files.new))) }
     ensures lasts { (old : LogView) → Finds old.acts old.begun (F.acts files.old) (F.begun files.old) (Some bytes.now)
         → OnErr result (DataLasts
         (started (version_of L.logic task.now.kinds) silo.old.history.setup) task.now.sends
@@ -130,10 +148,8 @@ fn resume_log<F: DataFiles, L: GrainLogic>(
         Ok(again) => again,
         Err(why) => return Err(again_fault(head, why)),
     };
-    if again.length < behind.len() {
-        if files.keep(head.len() + again.length).is_err() {
-            return Err(DataFault::Failed(Cause::Write));
-        }
+    if cut_end(files, bytes, head.len() + again.length).is_err() {
+        return Err(DataFault::Failed(Cause::Write));
     }
     Ok(again.place)
 }
@@ -154,6 +170,8 @@ pub(crate) fn start_log<F: DataFiles, L: GrainLogic>(
     ensures ready { OnOk result (silo.new.stopped ≡ false) }
     ensures fault { IfErr result (λ why. StartFailsBy (started (version_of L.logic task.now.kinds) silo.old.history.setup) task.now.sends
         (log_claims F.begun F.acts F.failed files.old files.new) why) }
+    ensures cut { OnErr result (MayCutLog (started (version_of L.logic task.now.kinds) silo.old.history.setup) task.now.sends
+        (log_claims F.begun F.acts F.failed files.old files.new)) }
     ensures lasts { OnErr result (DataLasts (started (version_of L.logic task.now.kinds) silo.old.history.setup) task.now.sends
         (log_claims F.begun F.acts F.failed files.old files.new)) }
 {

@@ -167,7 +167,7 @@ module _ (logic : Logic) (n count : ℕ) (old now : History) (before : Option (L
 
   module _ (w : Whole) (first : ℕ) (begun : LogPlace) (h : Held) (acts : List Act) (same : place.name ≡ begun.name)
       (on : GoesOn logic n w first begun h old.whole) (s : Settles (silo_log logic n w begun.name first) h (kept_lines told) acts start place.sum) where
-    abbrev asking : IsAsked (silo_log logic n w begun.name first) place.name (held_from h s.more) place.sum asked texts
+    abbrev pub asking : IsAsked (silo_log logic n w begun.name first) place.name (held_from h s.more) place.sum asked texts
     asking = is_asked logic n count from left old now before during asked texts told pending p w first place.sum begun place.name h acts start same on s
 
     -- the batch was committed

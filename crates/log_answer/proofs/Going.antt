@@ -1,5 +1,5 @@
 -- As far as an input was answered and its log has it.
-use Rattle.std.proofs.Common.{◌≡◌, ◌≢◌, ◌∙◌, ℕ, ◌+◌, Bool, IfSome, List, [], ◌∷◌, ◌++◌, Option, Some, refl, sym, subst, ap, ⊎_elim}
+use Rattle.std.proofs.Common.{◌≡◌, ◌≢◌, ◌∙◌, ℕ, ◌+◌, Bool, IfSome, List, [], ◌∷◌, ◌++◌, Option, Some, append_assoc, inl, inr, refl, sym, subst, ap, ⊎_elim}
 use Rattle.std.specs.Prelude.{◌⊎◌}
 use Rattle.std.specs.Io.KnownBytes.{IsAtEnd, Keeps}
 use Rattle.std.proofs.KnownBytes.{Keeps-refl}
@@ -11,22 +11,31 @@ use Rattle.line_protocol.specs.Lines.{lines_of}
 use Rattle.line_protocol.specs.Reading.{IsFresh, Reading, TakesCut, left_of}
 use Rattle.line_answer.specs.Limits.{answered_limit}
 use Rattle.answer_model.specs.Idle.{AllIdle}
-use Rattle.log_host.specs.Acts.{Act, Held}
+use Rattle.log_host.specs.Acts.{Act, Held, held_from}
+use Rattle.log_host.proofs.Moments.{held_on}
 use Rattle.log_host.specs.declared.place.LogPlace.{LogPlace}
 use Rattle.log_answer.specs.Answers.{kept_line, kept_lines, silo_log}
 use Rattle.log_host.specs.Lasting.{LastsFrom}
 use Rattle.log_answer.specs.Runs.{AnswersLogged, GoesOn, KeepsLines, StopsLogged}
+use Rattle.log_answer.specs.Starts.{IsOwn, MarksTell, OwnsFrom}
 use Rattle.log_answer.specs.declared.running.LogFault.{LogFault}
 use Rattle.log_answer.specs.declared.running.LogFault.TheVariants as fault
-use Rattle.log_answer.specs.inside.Commits.{Commits, Settles, StopsTaking, Waits}
+use Rattle.log_answer.specs.inside.Commits.{Breaks, Commits, Settles, StopsTaking, Waits}
 use Rattle.log_answer.specs.inside.Gathering.{Gathers}
 use Rattle.log_answer.proofs.Done.{Done, done_gathered, done_left, done_none, settles_last, settles_none}
-use Rattle.log_answer.proofs.Ends.{committed, done_all, keeps_all, lasts_taking, lasts_then, settles_then, stops_full, stops_memory, stops_taking}
+use Rattle.log_answer.proofs.Own.{own_part, own_settled, same_more, tells_same}
+use Rattle.log_answer.proofs.Ends.{asking, committed, done_all, keeps_all, lasts_taking, lasts_then, settles_then, stops_full, stops_memory, stops_taking}
 
 -- the log has these lines, if it is settled where the silo was
 abbrev pub Keeping : Logic → ℕ → LogPlace → Whole → List (List ℕ) → Option (List Act) → Option (List Act) → ℕ → Type 0
 Keeping logic n begun silo told start new sum = (w : Whole) (first : ℕ) (h : Held) (acts : List Act) → start ≡ Some acts → GoesOn logic n w first begun h silo
     → Settles (silo_log logic n w begun.name first) h (kept_lines told) acts new sum
+
+-- and its marks say the sums of what was told, if they did where the silo was
+abbrev pub Telling : Logic → ℕ → LogPlace → LogPlace → Whole → Option (List Act) → Option (List Act) → Type 0
+Telling logic n begun place silo start new = (w : Whole) (first sum : ℕ) (h : Held) (acts : List Act) → start ≡ Some acts → GoesOn logic n w first begun h silo
+    → MarksTell logic n w begun.name first sum h.file begun.told → (more : List Act) → new ≡ Some (acts ++ more)
+    → MarksTell logic n w begun.name first sum (held_from h more).file place.told
 
 pub record Going (logic : Logic) (n count : ℕ) (from left : Option (List ℕ)) (old now : History) (before after : Option (List ℕ)) (asked texts : List ℕ)
     (begun place : LogPlace) (start new : Option (List Act)) : Type 0 where
@@ -34,6 +43,7 @@ pub record Going (logic : Logic) (n count : ℕ) (from left : Option (List ℕ))
   pub pending : List (List ℕ)
   pub done : Done logic n count from left old now before after asked texts told pending
   pub keeps : Keeping logic n begun old.whole told start new place.sum
+  pub tells : Telling logic n begun place old.whole start new
   pub name : place.name ≡ begun.name
 
 module _ (logic : Logic) (n : ℕ) where
@@ -45,6 +55,7 @@ module _ (logic : Logic) (n : ℕ) where
     pending = [];
     done = done_none logic n from old before asked texts leads idle none nothing;
     keeps = λ w first h acts is on. settles_none logic n w first begun h old.whole acts start is on;
+    tells = λ w first sum h acts is on m. tells_same logic n w begun.name first sum h begun.told start acts is m;
     name = refl;
   }
 
@@ -57,6 +68,7 @@ module _ (logic : Logic) (n : ℕ) where
       pending = p.pending;
       done = done_left logic n count from left old now before during asked texts p.told p.pending p.done next kept;
       keeps = p.keeps;
+      tells = p.tells;
       name = p.name;
     }
 
@@ -73,6 +85,8 @@ module _ (logic : Logic) (n : ℕ) where
         keeps = λ v first h acts is on.
             subst (λ (x : LogPlace). Settles (silo_log logic n v begun.name first) h (kept_lines p.told) acts new x.sum) (sym w.place_is)
             (subst (λ a. Settles (silo_log logic n v begun.name first) h (kept_lines p.told) acts a place.sum) (sym w.acts) (p.keeps v first h acts is on));
+        tells = λ v first sum h acts is on m more also.
+            subst (λ (x : LogPlace). MarksTell logic n v begun.name first sum (held_from h more).file x.told) (sym w.place_is) (p.tells v first sum h acts is on m more (sym w.acts ∙ also));
         name = ap (λ (x : LogPlace). x.name) w.place_is ∙ p.name;
       }
 
@@ -86,6 +100,14 @@ module _ (logic : Logic) (n : ℕ) where
         keeps = λ w first h acts is on.
             settles_then logic n count old now before asked texts from left during after p.told p.pending mid new place p.done w first begun h acts p.name on
             (p.keeps w first h acts is on) next c;
+        tells = λ w first sum h acts is on m more also.
+            let s = p.keeps w first h acts is on in
+            let a = asking logic n count old now before asked texts from left during after p.told p.pending mid new place p.done w first begun h acts p.name on s in
+            let t = c.settles (silo_log logic n w begun.name first) (held_from h s.more) (acts ++ s.more) s.acts a in
+            let there : s.more ++ t.more ≡ more = same_more new acts (s.more ++ t.more) more (t.acts ∙ ap Some (append_assoc acts s.more t.more)) also in
+            subst (λ (l : List Act). MarksTell logic n w begun.name first sum (held_from h l).file next.told) there
+            (subst (λ (x : Held). MarksTell logic n w begun.name first sum x.file next.told) (sym (held_on h s.more t.more))
+            (c.tells logic n w begun.name first sum (held_from h s.more) (acts ++ s.more) s.acts a (p.tells w first sum h acts is on m s.more s.acts) t.more t.acts));
         name = c.name ∙ p.name;
       }
 
@@ -105,6 +127,7 @@ module _ (logic : Logic) (n : ℕ) where
           done_gathered logic n count from left old now before during asked texts p.told p.pending p.done next new shown asked_then texts_then w
           (subst (λ l. Gathers logic n now (kept_line l) new asked asked_then texts texts_then) same g);
       keeps = p.keeps;
+      tells = p.tells;
       name = p.name;
     }
 
@@ -140,6 +163,32 @@ module _ (logic : Logic) (n : ℕ) where
         lasts_then logic n count old now before asked texts from left during after p.told p.pending mid new place p.done w first begun h acts p.name on
         (p.keeps w first h acts is on) next c
 
+    -- ---- its marks, in every outcome
+
+    pub owns_now : (w : Whole) (first sum : ℕ) (h : Held) (acts : List Act) → start ≡ Some acts → GoesOn logic n w first begun h old.whole
+        → MarksTell logic n w begun.name first sum h.file begun.told → OwnsFrom logic n w begun.name first sum h acts mid
+    owns_now w first sum h acts is on m =
+        let s = p.keeps w first h acts is on in
+        record {
+          more = s.more;
+          acts = s.acts;
+          own = own_settled logic n w begun.name first place.sum sum place.told (held_from h s.more) on.plain s.settled (p.tells w first sum h acts is on m s.more s.acts);
+        }
+
+    -- a batch that isn't whole
+    pub owns_broken : (after : Option (List ℕ)) (new : Option (List Act)) → Breaks mid new during after place asked texts
+        → (w : Whole) (first sum : ℕ) (h : Held) (acts : List Act) → start ≡ Some acts → GoesOn logic n w first begun h old.whole
+        → MarksTell logic n w begun.name first sum h.file begun.told → OwnsFrom logic n w begun.name first sum h acts new
+    owns_broken after new b w first sum h acts is on m =
+        let s = p.keeps w first h acts is on in
+        let a = asking logic n count old now before asked texts from left during after p.told p.pending mid new place p.done w first begun h acts p.name on s in
+        let o = own_part logic n w begun.name first sum (held_from h s.more) place asked texts a (p.tells w first sum h acts is on m s.more s.acts) mid new (acts ++ s.more) s.acts b.puts in
+        record {
+          more = s.more ++ o.more;
+          acts = o.acts ∙ ap Some (append_assoc acts s.more o.more);
+          own = subst (λ (x : Held). IsOwn logic n w begun.name first sum x.file) (sym (held_on h s.more o.more)) o.own;
+        }
+
     -- ---- a fault
 
     pub going_stops : (why : LogFault) (after rest : Option (List ℕ)) (new : Option (List Act)) (reading : Reading) (failed : Bool)
@@ -164,3 +213,24 @@ module _ (logic : Logic) (n : ℕ) where
         → IfSome from (λ input. StopsLogged logic n input reading rest failed old.whole before during fault.Memory)
     going_memory reading rest failed =
         stops_memory logic n count old now before asked texts from left during during p.told p.pending reading rest failed p.done (Keeps-refl during)
+
+  module _ (count : ℕ) (from left : Option (List ℕ)) (old now : History) (before during : Option (List ℕ)) (asked texts : List ℕ) (begun place : LogPlace)
+      (start mid : Option (List Act)) (p : Going logic n count from left old now before during asked texts begun place start mid) where
+    pub owns_ended : (after : Option (List ℕ)) (next : LogPlace) (new : Option (List Act)) → Commits mid new during after place asked texts next
+        → (w : Whole) (first sum : ℕ) (h : Held) (acts : List Act) → start ≡ Some acts → GoesOn logic n w first begun h old.whole
+        → MarksTell logic n w begun.name first sum h.file begun.told → OwnsFrom logic n w begun.name first sum h acts new
+    owns_ended after next new c =
+        owns_now count from left old now before after [] [] begun next start new
+        (going_committed count from left old now before during asked texts begun place start mid p after [] [] next new c refl refl)
+
+    pub owns_stopped : (why : LogFault) (after rest : Option (List ℕ)) (new : Option (List Act)) (reading : Reading) (failed : Bool)
+        → StopsTaking mid new during after place asked texts left rest reading failed why
+        → (w : Whole) (first sum : ℕ) (h : Held) (acts : List Act) → start ≡ Some acts → GoesOn logic n w first begun h old.whole
+        → MarksTell logic n w begun.name first sum h.file begun.told → OwnsFrom logic n w begun.name first sum h acts new
+    owns_stopped fault.Read after rest new reading failed s = owns_ended after s.0.next new s.0.commits
+    owns_stopped fault.TooMuch after rest new reading failed s = owns_ended after s.0.next new s.0.commits
+    owns_stopped fault.Memory after rest new reading failed (inl c) = owns_ended after c.0 new c.1
+    owns_stopped fault.Memory after rest new reading failed (inr b) =
+        owns_broken count from left old now before during asked texts begun place start mid p after new b.0
+    owns_stopped fault.Write after rest new reading failed b =
+        owns_broken count from left old now before during asked texts begun place start mid p after new b.0

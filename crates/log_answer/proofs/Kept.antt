@@ -1,5 +1,5 @@
 -- A batch that may be empty, and faults that are handed on.
-use Rattle.std.proofs.Common.{◌≡◌, ◌∙◌, ℕ, Bool, true, Result, Ok, Err, IfOk, IfErr, List, [], ◌∷◌, Option, Some, append-nil, refl, ap, sym, subst, inl, inr}
+use Rattle.std.proofs.Common.{◌≡◌, ◌∙◌, ℕ, Bool, true, Result, Ok, Err, List, [], ◌∷◌, Option, Some, append-nil, refl, ap, sym, subst, inl, inr}
 use Rattle.std.specs.Io.KnownBytes.{Appends, Keeps}
 use Rattle.std.proofs.KnownBytes.{Appends-nil}
 use Rattle.line_protocol.specs.Calls.{HasNothingAhead, StopsReading}
@@ -14,6 +14,7 @@ use Rattle.log_host.proofs.Moments.{settled_lasts}
 use Rattle.log_host.specs.declared.committing.CommitFault.{CommitFault}
 use Rattle.log_host.specs.declared.committing.CommitFault.TheVariants as commit
 use Rattle.log_answer.specs.inside.Commits.{Breaks, Commits, Settles, StopsTaking}
+use Rattle.log_answer.proofs.Own.{tells_same}
 use Rattle.log_answer.specs.inside.Faults.{fault_of_commit, fault_of_line}
 
 no_lines : (lines : List (List ℕ)) → text.lines_text lines ≡ [] → lines ≡ []
@@ -35,6 +36,7 @@ commits_none now before place asked texts none nothing = record {
         settled = a.settled;
         lines_then = sym (append-nil (lines_in log h.file));
       });
+  tells = λ logic n w name first sum h acts is a m. tells_same logic n w name first sum h place.told now acts is m;
 }
 
 -- no line was taken behind a batch that was committed
@@ -63,15 +65,3 @@ got x (Err e) = x
 pub same_ok : {T E F : Type 0} (x y : T) → ◌≡◌ {A = Result T E} (Ok x) (Ok y) → ◌≡◌ {A = Result T F} (Ok x) (Ok y)
 unfolding got
 same_ok x y is = ap Ok (ap (got x) is)
-
-pub ok_by : {T E : Type 0} (r : Result T E) (P : T → Type 0) (x : T) → r ≡ Ok x → P x → IfOk r P
-ok_by r P x is h = subst (λ y. IfOk y P) (sym is) h
-
-pub ok_none : {T E : Type 0} (r : Result T E) (P : T → Type 0) (e : E) → r ≡ Err e → IfOk r P
-ok_none r P e is = subst (λ y. IfOk y P) (sym is) tt
-
-pub err_by : {T E : Type 0} (r : Result T E) (P : E → Type 0) (e : E) → r ≡ Err e → P e → IfErr r P
-err_by r P e is h = subst (λ y. IfErr y P) (sym is) h
-
-pub err_none : {T E : Type 0} (r : Result T E) (P : E → Type 0) (x : T) → r ≡ Ok x → IfErr r P
-err_none r P x is = subst (λ y. IfErr y P) (sym is) tt

@@ -6,3 +6,4 @@ pub mod Going
 pub mod Kept
 pub mod Passed
 pub mod Lives
+pub mod Own

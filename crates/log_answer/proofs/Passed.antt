@@ -1,5 +1,5 @@
 -- As far as a log was answered again.
-use Rattle.std.proofs.Common.{◌≡◌, ◌∙◌, ◌≤◌, ℕ, ◌+◌, ◌-◌, ◌==◌, Bool, true, false, cond, List, [], ◌∷◌, ◌++◌, length, Some, None, append_assoc, append-nil, arith, length-append, refl, ap, sym, subst, true≢false}
+use Rattle.std.proofs.Common.{◌≡◌, ◌∙◌, ◌≤◌, ℕ, ◌+◌, ◌-◌, ◌==◌, Bool, true, false, cond, List, [], ◌∷◌, ◌++◌, length, Some, None, Result, Ok, Err, IfOk, IfErr, OnOk, append_assoc, append-nil, arith, length-append, refl, ap, sym, subst, true≢false}
 use Rattle.std.specs.Prelude.{drop}
 use Rattle.std.proofs.lemmas.Option.{none-some, same_Some}
 use Rattle.grain_logic.specs.Logic.{Logic}
@@ -18,8 +18,10 @@ use Rattle.log_text.proofs.Stands.{left_by}
 use Rattle.log_text.proofs.Written.{same_itself}
 use Rattle.log_host.specs.declared.place.LogPlace.{LogPlace}
 use Rattle.log_answer.specs.Answers.{LeadsLines, led, told_for}
-use Rattle.log_answer.specs.Starts.{AnswersAgain, IsRefused, TellSums, TellsOtherwise, told_sum}
+use Rattle.log_answer.specs.Starts.{AnswersAgain, StopsAgain, TellSums, TellsOtherwise, kept_length, told_sum}
 use Rattle.log_answer.specs.declared.starting.Again.{Again}
+use Rattle.log_answer.specs.declared.starting.AgainFault.{AgainFault}
+use Rattle.log_answer.specs.declared.starting.AgainFault.TheVariants as fault
 use Rattle.log_answer.proofs.Led.{is_led, led_append, told_append}
 
 -- ---- lists of batches
@@ -68,7 +70,7 @@ fault_few name bytes found is = omega (arith, fault_by _ (asked_first (whole_lin
 -- ---- what marks say
 
 module _ (logic : Logic) (n : ℕ) where
-  told_push : (w : Whole) (told : ℕ) (batches : List Batch) (batch : Batch)
+  pub told_push : (w : Whole) (told : ℕ) (batches : List Batch) (batch : Batch)
       → told_sum logic n w told (batches ++ batch ∷ [])
       ≡ after (told_sum logic n w told batches) (told_for logic n (led logic n w (lines_of batches)) batch.lines)
   told_push w told [] batch = refl
@@ -76,7 +78,7 @@ module _ (logic : Logic) (n : ℕ) where
       told_push (led logic n w b.lines) (after told (told_for logic n w b.lines)) batches batch
       ∙ ap (λ x. after (told_sum logic n w told (b ∷ batches)) (told_for logic n x batch.lines)) (sym (led_append logic n w b.lines (lines_of batches)))
 
-  tells_push : (w : Whole) (told : ℕ) (batches : List Batch) (batch : Batch) → TellSums logic n w told batches
+  pub tells_push : (w : Whole) (told : ℕ) (batches : List Batch) (batch : Batch) → TellSums logic n w told batches
       → batch.told ≡ spelled (after (told_sum logic n w told batches) (told_for logic n (led logic n w (lines_of batches)) batch.lines))
       → TellSums logic n w told (batches ++ batch ∷ [])
   tells_push w told [] batch tells is = (is, tt)
@@ -189,9 +191,9 @@ module _ (logic : Logic) (n : ℕ) where
           ap (λ bs. drop (length (log_text own_sums place.name place.sum bs)) bytes) all_read
           ∙ left_by (log_text own_sums place.name place.sum p.done) rest bytes p.text_is
 
-      pub again_all : (again : Again) → again.place ≡ record { name = place.name; sum = sum; told = told } → again.length ≡ length bytes - length rest → again.lines ≡ lines
-          → fault_in own_sums place.name rest ≡ None → AnswersAgain logic n place bytes old now again
-      again_all again at kept counted passes = record {
+      pub again_all : (r : Result Again AgainFault) → IfOk r (λ again. again.place ≡ record { name = place.name; sum = sum; told = told }) → IfOk r (λ again. again.lines ≡ lines)
+          → OnOk r (fault_in own_sums place.name rest ≡ None) → IfOk r (λ again. AnswersAgain logic n place bytes old now again)
+      again_all (Ok again) at counted passes = record {
         batches = p.done;
         read = sym all_read;
         leads = is_led logic n old now (lines_of p.done) p.leads p.setup p.whole p.idle;
@@ -199,18 +201,33 @@ module _ (logic : Logic) (n : ℕ) where
         name = ap (λ (x : LogPlace). x.name) at;
         sum = ap (λ (x : LogPlace). x.sum) at ∙ p.sum_is;
         told = ap (λ (x : LogPlace). x.told) at ∙ p.told_is;
-        kept = omega (arith, kept, ap length p.text_is, length-append (log_text own_sums place.name place.sum p.done) rest);
         lines = counted ∙ p.lines_is;
         passes = ap (fault_in own_sums place.name) left_there ∙ passes;
       }
+      again_all (Err why) at counted passes = tt
 
-      pub again_refused : (found before : ℕ) → fault_in own_sums place.name rest ≡ Some found → before ≡ (lines + marks) + found → IsRefused logic n place bytes old.whole before
-      again_refused found before is total = record {
+      -- so many bytes they have
+      pub again_kept : (r : Result Again AgainFault) → IfOk r (λ again. again.length ≡ length bytes - length rest) → IfOk r (λ again. again.length ≡ kept_length place bytes)
+      again_kept (Ok again) kept =
+          omega (
+            arith,
+            kept,
+            ap length p.text_is,
+            length-append (log_text own_sums place.name place.sum p.done) rest,
+            ap (λ bs. length (log_text own_sums place.name place.sum bs)) all_read,
+          )
+      again_kept (Err why) kept = tt
+
+      pub again_refused : (r : Result Again AgainFault)
+          → IfErr r (λ why. (found : ℕ) × (fault_in own_sums place.name rest ≡ Some found) × (why ≡ fault.Refused ((lines + marks) + found)))
+          → IfErr r (λ why. StopsAgain logic n place bytes old.whole why)
+      again_refused (Ok again) is = tt
+      again_refused (Err why) is = subst (StopsAgain logic n place bytes old.whole) (sym is.2) (record {
         tells = subst (TellSums logic n old.whole place.told) (sym all_read) p.tells;
-        found = found;
-        refused = ap (fault_in own_sums place.name) left_there ∙ is;
-        before_it = omega (arith, total, p.lines_is, p.marks_is, ap length (ap lines_of all_read), ap length all_read);
-      }
+        found = is.0;
+        refused = ap (fault_in own_sums place.name) left_there ∙ is.1;
+        before_it = omega (arith, p.lines_is, p.marks_is, ap length (ap lines_of all_read), ap length all_read);
+      })
 
 -- ---- one batch
 

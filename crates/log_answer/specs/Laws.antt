@@ -11,8 +11,10 @@ use Rattle.log_host.specs.Lasting.{Grows, lines_in}
 use Rattle.log_host.specs.Laws.{AllTold, AreLives, Life, left_by, restarted}
 use Rattle.log_answer.specs.Answers.{heard_of, led, silo_log, told_for}
 use Rattle.log_answer.specs.Runs.{GoesOn}
-use Rattle.log_answer.specs.Starts.{AnswersAgain}
+use Rattle.log_answer.specs.Starts.{AnswersAgain, IsOwn, MarksTell, StopsAgain}
 use Rattle.log_answer.specs.declared.starting.Again.{Again}
+use Rattle.log_answer.specs.declared.starting.AgainFault.{AgainFault}
+use Rattle.log_answer.specs.declared.starting.AgainFault.TheVariants as fault
 
 -- What a silo tells for some lines is the beginning of what it tells for them and for more.
 abbrev pub SilosGrow : Type 0
@@ -24,6 +26,19 @@ abbrev pub StartsGoOn : Type 0
 StartsGoOn = (logic : Logic) (n : ℕ) (place : LogPlace) (left : List ℕ) (old new : History) (again : Again)
     → HasNoBreak place.name → AnswersAgain logic n place left old new again
     → GoesOn logic n old.whole place.sum again.place (restarted (silo_log logic n old.whole place.name place.sum) left) new.whole
+
+-- The marks of what such a start keeps say the sums of what is told, up to the place where it goes on.
+abbrev pub StartsTell : Type 0
+StartsTell = (logic : Logic) (n : ℕ) (place : LogPlace) (left : List ℕ) (old new : History) (again : Again)
+    → HasNoBreak place.name → AnswersAgain logic n place left old new again
+    → MarksTell logic n old.whole place.name place.sum place.told
+    (restarted (silo_log logic n old.whole place.name place.sum) left).file again.place.told
+
+-- A start takes each log whose marks say the sums of what is told, wherever it was cut, unless memory is refused.
+abbrev pub OwnTaken : Type 0
+OwnTaken = (logic : Logic) (n : ℕ) (w : Whole) (place : LogPlace) (left : List ℕ) (why : AgainFault)
+    → HasNoBreak place.name → IsOwn logic n w place.name place.sum place.told left → StopsAgain logic n place left w why
+    → why ≡ fault.Memory
 
 -- However often a process ends and starts again: all that any of its lives told is the beginning of what the log answers that is left in
 -- the end, and the lines that a life began with are the first of those.

@@ -1,11 +1,13 @@
 -- What a start makes of a log's bytes.
-use Rattle.std.specs.Prelude.{◌≡◌, ◌≢◌, ℕ, ◌+◌, List, [], ◌∷◌, ◌++◌, length, Some, None}
+use Rattle.std.specs.Prelude.{◌≡◌, ◌≢◌, ℕ, ◌+◌, List, [], ◌∷◌, ◌++◌, length, Option, Some, None}
 use Rattle.grain_logic.specs.Logic.{Logic}
 use Rattle.silo_model.specs.Whole.{Whole}
 use Rattle.silo_core.specs.History.{History}
 use Rattle.log_text.specs.Sums.{after, own_sums, spelled}
-use Rattle.log_text.specs.Batches.{Batch, last_sum, log_text}
+use Rattle.log_text.specs.Batches.{AreBatches, Batch, last_sum, log_text}
+use Rattle.log_text.specs.Lines.{IsPrefixOf}
 use Rattle.log_text.specs.Reading.{fault_in, left_in, lines_of, recovered}
+use Rattle.log_host.specs.Acts.{Act, Held, held_from}
 use Rattle.log_host.specs.declared.place.LogPlace.{LogPlace}
 use Rattle.log_answer.specs.Answers.{IsLed, led, told_for}
 use Rattle.log_answer.specs.declared.starting.Again.{Again}
@@ -15,6 +17,10 @@ use Rattle.log_answer.specs.declared.starting.AgainFault.TheVariants as fault
 -- how many lines of a log these batches are, with their marks
 abbrev pub lines_with_marks : List Batch → ℕ
 lines_with_marks batches = length (lines_of batches) + length batches
+
+-- How many bytes a log's batches have: so many of its first bytes are gone on with, and what stands behind them is cut off.
+abbrev pub kept_length : LogPlace → List ℕ → ℕ
+kept_length place bytes = length (log_text own_sums place.name place.sum (recovered own_sums place.name place.sum bytes))
 
 module _ (logic : Logic) (n : ℕ) where
   -- Each mark says the sum of all that is told for the lines before it. The sum before the first of them is given.
@@ -39,7 +45,6 @@ module _ (logic : Logic) (n : ℕ) where
     pub name : again.place.name ≡ place.name
     pub sum : again.place.sum ≡ last_sum own_sums place.name place.sum batches
     pub told : again.place.told ≡ told_sum old.whole place.told batches
-    pub kept : again.length ≡ length (log_text own_sums place.name place.sum batches)
     pub lines : again.lines ≡ length (lines_of batches)
     pub passes : fault_in own_sums place.name (left_in own_sums place.name place.sum bytes) ≡ None
 
@@ -65,3 +70,21 @@ module _ (logic : Logic) (n : ℕ) where
   StopsAgain place bytes w fault.Memory = Unit {0}
   StopsAgain place bytes w (fault.Refused before) = IsRefused place bytes w before
   StopsAgain place bytes w (fault.Otherwise before) = TellsOtherwise place bytes w before
+
+  -- The marks of these bytes say the sums of what is told for their lines, and behind the last of them it is this sum.
+  pub record MarksTell (w : Whole) (name : List ℕ) (first told : ℕ) (bytes : List ℕ) (last : ℕ) : Type 0 where
+    pub tells : TellSums w told (recovered own_sums name first bytes)
+    pub last_is : last ≡ told_sum w told (recovered own_sums name first bytes)
+
+  -- The bytes are the first ones of a log whose marks all say the sums of what is told for its lines.
+  pub record IsOwn (w : Whole) (name : List ℕ) (first told : ℕ) (bytes : List ℕ) : Type 0 where
+    pub batches : List Batch
+    pub are : AreBatches batches
+    pub tells : TellSums w told batches
+    pub begins : IsPrefixOf bytes (log_text own_sums name first batches)
+
+  -- The acts since then are known, and what the log has behind its head is its own.
+  pub record OwnsFrom (w : Whole) (name : List ℕ) (first told : ℕ) (h : Held) (old : List Act) (new : Option (List Act)) : Type 0 where
+    pub more : List Act
+    pub acts : new ≡ Some (old ++ more)
+    pub own : IsOwn w name first told (held_from h more).file

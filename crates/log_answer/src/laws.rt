@@ -1,6 +1,6 @@
 //! Laws of a silo that starts again and again from its log. Each is the contract of a function that does nothing.
 
-ghost use Rattle.log_answer.specs.Laws.{LinesLeadOn, LogsApart, SilosGrow, SilosLast, StartsGoOn};
+ghost use Rattle.log_answer.specs.Laws.{LinesLeadOn, LogsApart, OwnTaken, SilosGrow, SilosLast, StartsGoOn, StartsTell};
 
 /// What a silo tells for some lines is the beginning of what it tells for them and for more.
 #[tactic(auto, using(crate::proofs::Led::silos_grow))]
@@ -13,6 +13,17 @@ pub fn silos_grow()
 #[tactic(auto, using(crate::proofs::Lives::starts_go_on))]
 pub fn starts_go_on()
     ensures { StartsGoOn }
+{}
+
+/// The marks of what such a start keeps say the sums of what is told, up to the place where it goes on.
+pub fn starts_tell()
+    ensures { StartsTell }
+{}
+
+/// A start takes each log whose marks say the sums of what is told, wherever it was cut, unless memory is refused.
+#[tactic(auto, using(crate::proofs::Own::own_taken))]
+pub fn own_taken()
+    ensures { OwnTaken }
 {}
 
 /// However often a process ends and starts again: all that any of its lives told is the beginning of what the log answers that

@@ -10,6 +10,7 @@ ghost use Rattle.log_host.specs.Acts.{Act, Held};
 ghost use Rattle.log_host.specs.Lasting.{LastsFrom};
 ghost use Rattle.log_answer.specs.Answers.{silo_log};
 ghost use Rattle.log_answer.specs.Runs.{AnswersLogged, GoesOn, KeepsLines, StopsLogged};
+ghost use Rattle.log_answer.specs.Starts.{MarksTell, OwnsFrom};
 ghost use Rattle.log_answer.specs.inside.Commits.{Commits, StopsTaking, Waits};
 
 use crate::answering::LineTools;
@@ -111,6 +112,7 @@ fn take_next<R: Read, W: Write, H: LogHost>(
     ensures stops { IfErr result (λ why. StopsTaking (H.acts log.old) (H.acts log.new)
         (W.contents output.old.writer) (W.contents output.new.writer) place.old batch.old.asked.items batch.old.text.items
         (left_of input.old.lines (R.remaining input.old.reader)) (R.remaining input.new.reader) input.new.lines (H.failed log.new) why) }
+    ensures begun { H.begun log.new ≡ H.begun log.old }
     ensures unfailed { OnOk result (H.failed log.new ≡ H.failed log.old) }
     ensures output { OnOk result (output.new.calls.failed ≡ output.old.calls.failed) }
 {
@@ -164,6 +166,16 @@ pub fn answer_logged<R: Read, W: Write, H: LogHost, S: GrainStorage, L: GrainLog
         StopsLogged L.logic most bytes input.new.lines (R.remaining input.new.reader) (H.failed log.new) silo.old.history.whole
         (W.contents output.old.writer) (W.contents output.new.writer) why)) }
     ensures ready { OnOk result (silo.new.stopped ≡ false) }
+
+    // In every outcome: if the marks of the log say the sums of what was told for its lines, so do those of what it has then. So a start
+    // takes it, wherever a crash cut it (`own_taken`).
+    ensures own { (w : Whole) (first sum : ℕ) (h : Held) (acts : List Act) → H.acts log.old ≡ Some acts
+        → GoesOn L.logic most w first place h silo.old.history.whole
+        → MarksTell L.logic most w place.name first sum h.file place.told
+        → OwnsFrom L.logic most w place.name first sum h acts (H.acts log.new) }
+
+    // It is written behind what the log had, and nothing of that is changed.
+    ensures begun { H.begun log.new ≡ H.begun log.old }
     ensures bound { IfOk result (λ n. n ≤ answered_limit) }
     ensures unfailed { OnOk result (H.failed log.new ≡ H.failed log.old) }
     ensures output { OnOk result (output.new.calls.failed ≡ output.old.calls.failed) }

@@ -1,10 +1,10 @@
 //! The lines of a log, answered once more at a start.
 
-ghost use Rattle.std.specs.Prelude.{◌≡◌, false, IfErr, IfOk, OnOk, length};
-ghost use Rattle.log_text.specs.Reading.{asked_lines, same_text};
-ghost use Rattle.log_text.specs.Sums.{spelled};
+ghost use Rattle.std.specs.Prelude.{◌≡◌, ◌≤◌, ◌+◌, ◌-◌, ℕ, None, Some, false, IfErr, IfOk, OnOk, length};
+ghost use Rattle.log_text.specs.Reading.{asked_lines, fault_in, same_text};
+ghost use Rattle.log_text.specs.Sums.{own_sums, spelled};
 ghost use Rattle.log_answer.specs.Answers.{LeadsLines};
-ghost use Rattle.log_answer.specs.Starts.{AnswersAgain, StopsAgain};
+ghost use Rattle.log_answer.specs.Starts.{AnswersAgain, StopsAgain, kept_length};
 
 use crate::answering::{LineTools, answer_well};
 use grain_logic::GrainLogic;
@@ -82,6 +82,33 @@ fn says(told: &[u8], sum: u64) -> bool
     told == spell(sum).as_slice()
 }
 
+/// What a start made of a log's bytes whose batches end at a place, behind so many lines and marks, and before the rest; or which line
+/// of the rest is at fault.
+fn end_again(
+    place: LogPlace,
+    bytes: &[u8],
+    rest: &[u8],
+    lines: usize,
+    marks: usize,
+) -> Result<Again, AgainFault>
+    requires { (lines + marks) + length rest.now ≤ length bytes.now }
+    ensures place { IfOk result (λ again. again.place ≡ place) }
+    ensures length { IfOk result (λ again. again.length ≡ length bytes.now - length rest.now) }
+    ensures lines { IfOk result (λ again. again.lines ≡ lines) }
+    ensures passes { OnOk result (fault_in own_sums place.name rest.now ≡ None) }
+    ensures refused { IfErr result (λ why. (found : ℕ) × (fault_in own_sums place.name rest.now ≡ Some found)
+        × (why ≡ AgainFault.Refused ((lines + marks) + found))) }
+{
+    match fault_behind(&place.name, rest) {
+        Some(found) => Err(AgainFault::Refused(lines + marks + found)),
+        None => Ok(Again {
+            place,
+            length: bytes.len() - rest.len(),
+            lines,
+        }),
+    }
+}
+
 /// Answers the lines of a log's bytes once more, from the place before them, which stand behind its head. Nothing is told. What each
 /// mark says was told is compared with what would be.
 ///
@@ -100,6 +127,9 @@ pub fn answer_again<S: GrainStorage, L: GrainLogic>(
 ) -> Result<Again, AgainFault>
     requires { silo.old.stopped ≡ false }
     ensures answered { IfOk result (λ again. AnswersAgain L.logic most place bytes.now silo.old.history silo.new.history again) }
+
+    // So many bytes the batches have that were read, and what stands behind them is the end of one that was never acknowledged.
+    ensures kept { IfOk result (λ again. again.length ≡ kept_length place bytes.now) }
     ensures stops { IfErr result (λ why. StopsAgain L.logic most place bytes.now silo.old.history.whole why) }
     ensures ready { OnOk result (silo.new.stopped ≡ false) }
 {
@@ -112,18 +142,8 @@ pub fn answer_again<S: GrainStorage, L: GrainLogic>(
     let mut rest = bytes;
     'batches: loop {
         let Some(next) = next_batch(&place.name, sum, rest) else {
-            return match fault_behind(&place.name, rest) {
-                Some(found) => Err(AgainFault::Refused(lines + marks + found)),
-                None => Ok(Again {
-                    place: LogPlace {
-                        name: place.name,
-                        sum,
-                        told,
-                    },
-                    length: bytes.len() - rest.len(),
-                    lines,
-                }),
-            };
+            let name = place.name;
+            return end_again(LogPlace { name, sum, told }, bytes, rest, lines, marks);
         };
         let count = answer_asked(alloc, &mut tools, silo, most, next.asked, &mut text)?;
         told = sum_after(told, text.as_slice());

@@ -17,6 +17,8 @@ fn the_laws_are_stated() {
     log_host::laws::lasts_on();
     log_answer::laws::silos_grow();
     log_answer::laws::starts_go_on();
+    log_answer::laws::starts_tell();
+    log_answer::laws::own_taken();
     log_answer::laws::silos_last();
     log_answer::laws::lines_lead_on();
     log_answer::laws::logs_apart();

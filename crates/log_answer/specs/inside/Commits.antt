@@ -1,12 +1,20 @@
 -- A batch that is kept and told, if it has any line.
 use Rattle.std.specs.Prelude.{◌≡◌, ◌⊎◌, ℕ, Bool, true, List, [], ◌++◌, Option, Some}
 use Rattle.std.specs.Io.KnownBytes.{Appends, Keeps}
+use Rattle.grain_logic.specs.Logic.{Logic}
+use Rattle.silo_model.specs.Whole.{Whole}
 use Rattle.line_protocol.specs.Limits.{calls_limit}
 use Rattle.line_protocol.specs.LineRuns.{WrittenInPart}
 use Rattle.line_protocol.specs.Reading.{Reading, TakesPart, left_of}
-use Rattle.log_host.specs.Acts.{Act, Always, Held, held_from}
+use Rattle.log_text.specs.Lines.{ended}
+use Rattle.log_text.specs.Sums as sums
+use Rattle.log_text.specs.Sums.{own_sums, spelled}
+use Rattle.log_text.specs.Batches.{mark_behind}
+use Rattle.log_host.specs.Acts.{Act, Always, Held, Puts, held_from}
 use Rattle.log_host.specs.Lasting.{IsAsked, IsSettled, Lasts, LastsFrom, Log, lines_in}
 use Rattle.log_host.specs.declared.place.LogPlace.{LogPlace}
+use Rattle.log_answer.specs.Answers.{silo_log}
+use Rattle.log_answer.specs.Starts.{MarksTell}
 use Rattle.log_answer.specs.declared.running.LogFault.{LogFault}
 use Rattle.log_answer.specs.declared.running.LogFault.TheVariants as fault
 
@@ -25,12 +33,16 @@ module _ (old new : Option (List Act)) (before after : Option (List ℕ)) (place
     pub written : Appends before after text
     pub settles : (log : Log) (h : Held) (acts : List Act) → old ≡ Some acts
         → (a : IsAsked log place.name h place.sum asked text) → Settles log h a.lines acts new next.sum
+    pub tells : (logic : Logic) (n : ℕ) (w : Whole) (name : List ℕ) (first sum : ℕ) (h : Held) (acts : List Act) → old ≡ Some acts
+        → IsAsked (silo_log logic n w name first) place.name h place.sum asked text → MarksTell logic n w name first sum h.file place.told
+        → (more : List Act) → new ≡ Some (acts ++ more) → MarksTell logic n w name first sum (held_from h more).file next.told
 
   -- It stopped, and a part was told.
   pub record Breaks : Type 0 where
     pub lasts : (log : Log) (h : Held) (acts : List Act) → old ≡ Some acts → IsAsked log place.name h place.sum asked text
         → LastsFrom log h acts new
     pub part : WrittenInPart before after text
+    pub puts : Puts old new (asked ++ ended (mark_behind own_sums place.name place.sum asked (spelled (sums.after place.told text))))
 
 -- Nothing was done: the batch, the log and the output are as they were.
 pub record Waits (old new : Option (List Act)) (before after : Option (List ℕ)) (place next : LogPlace)

@@ -1,6 +1,6 @@
 use Rattle.command_parts.specs.Setups.{started, version_of}
 use Rattle.data_command.specs.Data.{log_view}
-use Rattle.data_command.proofs.Runs.{run_answers, run_fails, run_has, run_lasts}
+use Rattle.data_command.proofs.Runs.{run_answers, run_cut, run_fails, run_has, run_lasts, run_may_cut}
 use Rattle.data_command.proofs.answering.answer_on.Goals as goal
 
 pub returns-in-Ok-answer_logged-clause-answered : goal.returns-in-Ok-answer_logged-clause-answered
@@ -37,3 +37,24 @@ returns-in-Err-answer_logged-clause-lasts g c sync =
     (log_view g.F.LogHost.begun g.F.LogHost.acts g.F.LogHost.failed c.start_log.new.files) (log_view g.F.LogHost.begun g.F.LogHost.acts g.F.LogHost.failed c.answer_logged.new.log) c.in-Ok-start_log.place c.start_log.new.silo.history
     c.in-Ok-start_log.ensures.started
     (g.F.LogHost.acts c.set_sync.new.self) (c.set_sync.ensures.synced sync).0 c.answer_logged.ensures.lasts
+
+pub returns-in-Ok-answer_logged-clause-cut : goal.returns-in-Ok-answer_logged-clause-cut
+returns-in-Ok-answer_logged-clause-cut g c sync =
+    run_cut (started (version_of g.L.GrainLogic.logic c.args.task.now.kinds) c.args.silo.now.history.setup) c.args.task.now.sends (log_view g.F.LogHost.begun g.F.LogHost.acts g.F.LogHost.failed c.args.files.now)
+    (log_view g.F.LogHost.begun g.F.LogHost.acts g.F.LogHost.failed c.start_log.new.files) (log_view g.F.LogHost.begun g.F.LogHost.acts g.F.LogHost.failed c.answer_logged.new.log) c.in-Ok-start_log.place c.start_log.new.silo.history
+    c.in-Ok-start_log.ensures.started
+    (g.F.LogHost.begun c.set_sync.new.self) (c.set_sync.ensures.synced sync).1 c.answer_logged.ensures.begun
+
+pub returns-in-Ok-answer_logged-clause-begun : goal.returns-in-Ok-answer_logged-clause-begun
+returns-in-Ok-answer_logged-clause-begun g c sync =
+    run_may_cut (started (version_of g.L.GrainLogic.logic c.args.task.now.kinds) c.args.silo.now.history.setup) c.args.task.now.sends (log_view g.F.LogHost.begun g.F.LogHost.acts g.F.LogHost.failed c.args.files.now)
+    (log_view g.F.LogHost.begun g.F.LogHost.acts g.F.LogHost.failed c.start_log.new.files) (log_view g.F.LogHost.begun g.F.LogHost.acts g.F.LogHost.failed c.answer_logged.new.log) c.in-Ok-start_log.place c.start_log.new.silo.history
+    c.in-Ok-start_log.ensures.started
+    (g.F.LogHost.begun c.set_sync.new.self) (c.set_sync.ensures.synced sync).1 c.answer_logged.ensures.begun
+
+pub returns-in-Err-answer_logged-clause-begun : goal.returns-in-Err-answer_logged-clause-begun
+returns-in-Err-answer_logged-clause-begun g c sync =
+    run_may_cut (started (version_of g.L.GrainLogic.logic c.args.task.now.kinds) c.args.silo.now.history.setup) c.args.task.now.sends (log_view g.F.LogHost.begun g.F.LogHost.acts g.F.LogHost.failed c.args.files.now)
+    (log_view g.F.LogHost.begun g.F.LogHost.acts g.F.LogHost.failed c.start_log.new.files) (log_view g.F.LogHost.begun g.F.LogHost.acts g.F.LogHost.failed c.answer_logged.new.log) c.in-Ok-start_log.place c.start_log.new.silo.history
+    c.in-Ok-start_log.ensures.started
+    (g.F.LogHost.begun c.set_sync.new.self) (c.set_sync.ensures.synced sync).1 c.answer_logged.ensures.begun

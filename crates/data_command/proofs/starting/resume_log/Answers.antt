@@ -1,14 +1,13 @@
-use Rattle.std.proofs.Common.{◌≡◌, ◌+◌, ◌++◌, ◌∙◌, List, ℕ, Some, ap, ap₂, arith, inl, length, refl, subst, sym, true≢false}
+use Rattle.std.proofs.Common.{◌≡◌, ◌+◌, ◌-◌, ◌++◌, ◌∙◌, List, ℕ, Some, ap, inl, length, refl, subst, sym, take, arith, true≢false}
 use Rattle.log_text.specs.Head.{IsNumber, head_text}
 use Rattle.log_text.specs.Lines.{whole_lines}
 use Rattle.log_text.specs.Sums.{after}
-use Rattle.log_host.specs.Files.{Finds}
+use Rattle.log_host.specs.Files.{Cuts, Finds}
 use Rattle.command_parts.specs.Setups.{started, version_of}
-use Rattle.data_command.specs.Data.{log_view, since}
+use Rattle.data_command.specs.Data.{log_view}
 use Rattle.data_command.specs.Words.{head_words}
-use Rattle.data_command.proofs.Starts.{cut_fresh, cut_kept, cut_lasts, headed, kept_length, not_again, on_err, on_ok, placed, started_again, uncut_kept}
-use Rattle.data_command.specs.inside.Starts.{IsStarted, again_fault}
-use Rattle.data_command.proofs.starting.resume_log.Goals.{else-again-behind, then-again-behind+else-is_err}
+use Rattle.data_command.proofs.Starts.{cut_fresh, cut_kept, cut_lasts, headed, kept_few, kept_sized, may_be_cut, not_again, on_err, on_ok, placed, started_again}
+use Rattle.data_command.specs.inside.Starts.{again_fault}
 use Rattle.data_command.proofs.starting.resume_log.Goals as goal
 
 pub returns-then-is_log-clause-fault : goal.returns-then-is_log-clause-fault
@@ -55,8 +54,24 @@ returns-then-is_err-clause-lasts g c old finds =
     let head = headed words number behind c.args.bytes.now _ text refl in
     let place = placed words number c.behind_head-place.result c.behind_head-place.ensures.name (c.behind_head-place.ensures.sum ∙ ap (λ (bs : List ℕ). after 0 bs) head) c.behind_head-place.ensures.told in
     let before = log_view g.F.LogHost.begun g.F.LogHost.acts g.F.LogHost.failed c.args.files.now in
-    cut_lasts (started (version_of g.L.GrainLogic.logic c.args.task.now.kinds) c.args.silo.now.history.setup) c.args.task.now.sends old before number behind cuts.0 found (log_view g.F.LogHost.begun g.F.LogHost.acts g.F.LogHost.failed c.keep.new.self) _
-    (on_err c.keep.result _ (sym c.is_err.ensures.value ∙ c.if-is_err.true) c.keep.ensures.err)
+    cut_lasts (started (version_of g.L.GrainLogic.logic c.args.task.now.kinds) c.args.silo.now.history.setup) c.args.task.now.sends old before number behind cuts.0 found (log_view g.F.LogHost.begun g.F.LogHost.acts g.F.LogHost.failed c.cut_end.new.files) _
+    (on_err c.cut_end.result _ (sym c.is_err.ensures.value ∙ c.if-is_err.true) c.cut_end.ensures.err)
+
+pub returns-then-is_err-clause-cut : goal.returns-then-is_err-clause-cut
+returns-then-is_err-clause-cut g c old finds =
+    let number = c.in-Some.number.now in
+    let behind = c.in-Some.behind.now in
+    let words = head_words (started (version_of g.L.GrainLogic.logic c.args.task.now.kinds) c.args.silo.now.history.setup) c.args.task.now.sends in
+    let cuts = rw c.in-Some.is at c.cut_head.ensures in
+    let text : c.args.bytes.now ≡ head_text words number ++ behind = cuts.1 ∙ ap (λ (ws : List ℕ). head_text ws number ++ behind) (c.as_slice.ensures.value ∙ c.requires.words) in
+    let found = subst (λ (bs : List ℕ). Finds old.acts old.begun (g.F.LogHost.acts c.args.files.now) (g.F.LogHost.begun c.args.files.now) (Some bs)) text finds in
+    let head = headed words number behind c.args.bytes.now _ text refl in
+    let place = placed words number c.behind_head-place.result c.behind_head-place.ensures.name (c.behind_head-place.ensures.sum ∙ ap (λ (bs : List ℕ). after 0 bs) head) c.behind_head-place.ensures.told in
+    let before = log_view g.F.LogHost.begun g.F.LogHost.acts g.F.LogHost.failed c.args.files.now in
+    let start = started (version_of g.L.GrainLogic.logic c.args.task.now.kinds) c.args.silo.now.history.setup in
+    let long = kept_sized start c.args.task.now.sends old before number behind cuts.0 found _ c.in-Ok.again c.behind_head-place.result head place c.in-Ok.ensures.kept in
+    may_be_cut start c.args.task.now.sends old before number behind cuts.0 found (log_view g.F.LogHost.begun g.F.LogHost.acts g.F.LogHost.failed c.cut_end.new.files) _ long
+    (on_err c.cut_end.result _ (sym c.is_err.ensures.value ∙ c.if-is_err.true) c.cut_end.ensures.err)
 
 pub returns-clause-started : goal.returns-clause-started
 returns-clause-started g c old finds =
@@ -72,18 +87,21 @@ returns-clause-started g c old finds =
     let start = started (version_of g.L.GrainLogic.logic c.args.task.now.kinds) c.args.silo.now.history.setup in
     let sends = c.args.task.now.sends in
     let done = c.in-Ok.ensures.answered in
-    let long = kept_length start sends old before number behind cuts.0 found c.args.silo.now.history c.answer_again.new.silo.history c.in-Ok.again c.behind_head-place.result place done in
-    elim c.if-again-behind.branch [
-      | then-again-behind+else-is_err w ↦
-          let after_it = log_view g.F.LogHost.begun g.F.LogHost.acts g.F.LogHost.failed w.keep.new.self in
-          let cut = on_ok w.keep.result _ (sym w.is_err.ensures.value ∙ w.if-is_err.false) w.keep.ensures.ok in
-          subst (λ f. IsStarted start sends (since old (log_view g.F.LogHost.begun g.F.LogHost.acts g.F.LogHost.failed f)) c.in-Ok.again.place c.answer_again.new.silo.history) (sym w.files-is)
-          (started_again start sends old before number behind cuts.0 found after_it c.args.silo.now.history c.answer_again.new.silo.history c.in-Ok.again c.behind_head-place.result refl c.requires.opened place done
-          (cut_fresh start sends old before number behind cuts.0 found after_it _ cut)
-          (cut_kept start sends old before number behind cuts.0 found after_it _ (ap₂ (λ (a b : ℕ). a + b) (ap (λ (bs : List ℕ). length bs) head) long) cut))
-      | else-again-behind w ↦
-          subst (λ f. IsStarted start sends (since old (log_view g.F.LogHost.begun g.F.LogHost.acts g.F.LogHost.failed f)) c.in-Ok.again.place c.answer_again.new.silo.history) (sym w.files-is)
-          (started_again start sends old before number behind cuts.0 found before c.args.silo.now.history c.answer_again.new.silo.history c.in-Ok.again c.behind_head-place.result refl c.requires.opened place done
-          (λ e. (finds e).0.0)
-          (uncut_kept start sends old before number behind cuts.0 found (λ less. omega (arith, w.if-again-behind.false, long, less))))
-    ]
+    let long = kept_sized start sends old before number behind cuts.0 found _ c.in-Ok.again c.behind_head-place.result head place c.in-Ok.ensures.kept in
+    let after_it = log_view g.F.LogHost.begun g.F.LogHost.acts g.F.LogHost.failed c.cut_end.new.files in
+    let cut : before.begun ≡ Some (head_text words number ++ behind) → Cuts before.acts before.begun after_it.acts after_it.begun (length (take (length c.args.bytes.now - length behind) c.args.bytes.now) + c.in-Ok.again.length) =
+    λ is. on_ok c.cut_end.result _ (sym c.is_err.ensures.value ∙ c.if-is_err.false) (c.cut_end.ensures.ok (is ∙ ap Some (sym text))) in
+    started_again start sends old before number behind cuts.0 found after_it c.args.silo.now.history c.answer_again.new.silo.history c.in-Ok.again c.behind_head-place.result refl c.requires.opened place done
+    (cut_fresh start sends old before number behind cuts.0 found after_it _ cut)
+    (cut_kept start sends old before number behind cuts.0 found after_it _ long cut)
+
+pub overflow_add-head : goal.overflow_add-head
+overflow_add-head g c =
+    let number = c.in-Some.number.now in
+    let behind = c.in-Some.behind.now in
+    let words = head_words (started (version_of g.L.GrainLogic.logic c.args.task.now.kinds) c.args.silo.now.history.setup) c.args.task.now.sends in
+    let cuts = rw c.in-Some.is at c.cut_head.ensures in
+    let text : c.args.bytes.now ≡ head_text words number ++ behind = cuts.1 ∙ ap (λ (ws : List ℕ). head_text ws number ++ behind) (c.as_slice.ensures.value ∙ c.requires.words) in
+    let head = headed words number behind c.args.bytes.now _ text refl in
+    let place = placed words number c.behind_head-place.result c.behind_head-place.ensures.name (c.behind_head-place.ensures.sum ∙ ap (λ (bs : List ℕ). after 0 bs) head) c.behind_head-place.ensures.told in
+    omega (arith, kept_few words number behind c.args.bytes.now _ c.behind_head-place.result c.in-Ok.again.length text head place c.in-Ok.ensures.kept)

@@ -4,7 +4,7 @@ use Rattle.log_text.specs.Head.{head_text}
 use Rattle.log_text.specs.Sums.{spelled}
 use Rattle.command_parts.specs.Setups.{started, version_of}
 use Rattle.data_command.specs.Data.{log_view, place_of}
-use Rattle.data_command.proofs.Starts.{begun_lasts, begun_started}
+use Rattle.data_command.proofs.Starts.{begun_lasts, begun_started, may_be_begun}
 use Rattle.data_command.proofs.starting.start_log.Goals as goal
 
 pub returns-in-Some-clause-fault : goal.returns-in-Some-clause-fault
@@ -27,6 +27,15 @@ returns-in-Err-begin_log-clause-lasts g c =
     let words = c.as_slice-in-None.ensures.value ∙ c.requires.words in
     let n = c.args.task.now.number in
     begun_lasts (started (version_of g.L.GrainLogic.logic c.args.task.now.kinds) c.args.silo.now.history.setup) c.args.task.now.sends
+    (log_view g.F.LogHost.begun g.F.LogHost.acts g.F.LogHost.failed c.args.files.now) (log_view g.F.LogHost.begun g.F.LogHost.acts g.F.LogHost.failed c.open.new.self) (log_view g.F.LogHost.begun g.F.LogHost.acts g.F.LogHost.failed c.begin_log.new.files) n
+    (rw c.in-None.is at c.in-Ok.ensures.ok)
+    (subst (λ (ws : List ℕ). MayBegin (g.F.LogHost.acts c.open.new.self) (g.F.LogHost.begun c.open.new.self) (g.F.LogHost.acts c.begin_log.new.files) (g.F.LogHost.begun c.begin_log.new.files) (head_text ws (spelled n))) words c.in-Err-begin_log.ensures.err)
+
+pub returns-in-Err-begin_log-clause-cut : goal.returns-in-Err-begin_log-clause-cut
+returns-in-Err-begin_log-clause-cut g c =
+    let words = c.as_slice-in-None.ensures.value ∙ c.requires.words in
+    let n = c.args.task.now.number in
+    may_be_begun (started (version_of g.L.GrainLogic.logic c.args.task.now.kinds) c.args.silo.now.history.setup) c.args.task.now.sends
     (log_view g.F.LogHost.begun g.F.LogHost.acts g.F.LogHost.failed c.args.files.now) (log_view g.F.LogHost.begun g.F.LogHost.acts g.F.LogHost.failed c.open.new.self) (log_view g.F.LogHost.begun g.F.LogHost.acts g.F.LogHost.failed c.begin_log.new.files) n
     (rw c.in-None.is at c.in-Ok.ensures.ok)
     (subst (λ (ws : List ℕ). MayBegin (g.F.LogHost.acts c.open.new.self) (g.F.LogHost.begun c.open.new.self) (g.F.LogHost.acts c.begin_log.new.files) (g.F.LogHost.begun c.begin_log.new.files) (head_text ws (spelled n))) words c.in-Err-begin_log.ensures.err)

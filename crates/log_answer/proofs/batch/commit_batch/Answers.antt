@@ -2,6 +2,7 @@ use Rattle.std.proofs.Common.{◌≡◌, [], arith, subst, vec_len}
 use Rattle.std.proofs.lemmas.List.{nil_from_length}
 use Rattle.log_answer.specs.inside.Commits.{Commits}
 use Rattle.log_answer.proofs.Kept.{commits_none}
+use Rattle.log_answer.proofs.Own.{tells_committed}
 use Rattle.log_answer.proofs.batch.commit_batch.Goals as goal
 
 pub returns-then-is_empty-clause-commits : goal.returns-then-is_empty-clause-commits
@@ -23,5 +24,7 @@ returns-in-Ok-clause-commits g c =
       settles = λ log h acts is a.
           let s = c.in-Ok.ensures.settled log h acts is a in
           record { more = s.more; acts = s.acts; always = s.always; settled = s.settled; lines_then = s.lines };
+      tells = λ logic n w name first sum h acts is a m.
+          tells_committed logic n w name first sum h c.args.place c.in-Ok.next _ _ old new acts c.in-Ok.ensures.told c.in-Ok.ensures.order is a m;
     } in
     subst (λ t. Commits old new before after c.args.place c.args.batch.now.asked.items t c.in-Ok.next) c.as_slice.ensures.value told

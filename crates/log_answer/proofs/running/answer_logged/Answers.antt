@@ -2,13 +2,13 @@ use Rattle.std.proofs.Common.{Ok, Err, refl, ap, ◌∙◌, arith}
 use Rattle.line_protocol.proofs.ReadLines.{handed}
 use Rattle.line_protocol.proofs.Run.{nothing_ahead}
 use Rattle.line_protocol.proofs.TakenLines.{TakesPart-kept, TakesPart-none}
-use Rattle.log_answer.proofs.Going.{going_ends, going_full, going_gathered, going_keeps, going_memory, going_moved, going_none, going_stops, lasts_ended, lasts_now, lasts_stopped}
+use Rattle.log_answer.proofs.Going.{going_ends, going_full, going_gathered, going_keeps, going_memory, going_moved, going_none, going_stops, lasts_ended, lasts_now, lasts_stopped, owns_ended, owns_now, owns_stopped}
 use Rattle.log_answer.proofs.Kept.{stops_behind, stops_commit}
 use Rattle.log_answer.proofs.running.answer_logged.Goals as goal
 
 pub loop-count-init : goal.loop-count-init
 loop-count-init g c =
-    (going_none _ _ _ _ _ _ _ _ _ c.journal.ensures.leads (c.journal.ensures.idle c.requires) c.new-batch.ensures.0 c.new-batch.ensures.1, c.requires, refl, refl)
+    (going_none _ _ _ _ _ _ _ _ _ c.journal.ensures.leads (c.journal.ensures.idle c.requires) c.new-batch.ensures.0 c.new-batch.ensures.1, c.requires, refl, refl, refl)
 
 pub loop-count-preserved : goal.loop-count-preserved
 loop-count-preserved g c =
@@ -20,6 +20,7 @@ loop-count-preserved g c =
       c.in_ok-answer_more.ensures.ready,
       taken.unfailed ∙ inv.2,
       taken.output ∙ inv.3,
+      taken.begun ∙ inv.4,
     )
 
 -- ---- the end of the input
@@ -129,3 +130,34 @@ returns-then-branch-clause-stops g c =
 
 pub returns-then-branch-clause-lasts : goal.returns-then-branch-clause-lasts
 returns-then-branch-clause-lasts g c = lasts_ended _ _ _ _ _ _ _ _ _ _ _ _ _ _ _ c.loop-count.invariant.0 _ _ _ c.in_ok-commit_batch.ensures.commits
+
+pub returns-then-not-branch-clause-own : goal.returns-then-not-branch-clause-own
+returns-then-not-branch-clause-own g c =
+    owns_ended _ _ _ _ _ _ _ _ _ _ _ _ _ _ _ c.loop-count.invariant.0 _ _ _ (c.in_ok-take_next.ensures.commits (ap Ok c.if-not-branch.true))
+
+pub returns-clause-own : goal.returns-clause-own
+returns-clause-own g c = owns_ended _ _ _ _ _ _ _ _ _ _ _ _ _ _ _ c.loop-count.invariant.0 _ _ _ c.in_ok-commit_batch.ensures.commits
+
+pub returns-in_err-take_next-clause-own : goal.returns-in_err-take_next-clause-own
+returns-in_err-take_next-clause-own g c =
+    let new = c.take_next.new in
+    owns_stopped _ _ _ _ _ _ _ _ _ _ _ _ _ _ _ c.loop-count.invariant.0 _ _ _ (g.H.LogHost.acts new.log) new.input.lines (g.H.LogHost.failed new.log) c.in_err-take_next.ensures.stops
+
+pub returns-in_err-answer_more-clause-own : goal.returns-in_err-answer_more-clause-own
+returns-in_err-answer_more-clause-own g c =
+    owns_now _ _ _ _ _ _ _ _ _ _ _ _ _ _ _
+    (going_moved _ _ _ _ _ _ _ _ _ _ _ _ _ _ _ c.loop-count.invariant.0 _ _ _ _ _ (c.in_ok-take_next.ensures.moves (ap Ok c.if-not-branch.false)))
+
+pub returns-in_err-commit_batch-clause-own : goal.returns-in_err-commit_batch-clause-own
+returns-in_err-commit_batch-clause-own g c =
+    let broken = c.in_err-commit_batch.ensures in
+    let input = c.loop-count.input in
+    let log = c.commit_batch.new.log in
+    let stops = stops_commit _ _ (g.H.LogHost.acts log) _ _ _ _ _ _ (g.R.Read.remaining input.reader) input.lines (g.H.LogHost.failed log) broken.breaks (λ e. broken.memory (ap Err e)) (λ e. broken.failed (ap Err e)) in
+    owns_stopped _ _ _ _ _ _ _ _ _ _ _ _ _ _ _ c.loop-count.invariant.0 _ _ (g.R.Read.remaining input.reader) (g.H.LogHost.acts log) input.lines (g.H.LogHost.failed log) stops
+
+pub returns-in_err-fill-clause-own : goal.returns-in_err-fill-clause-own
+returns-in_err-fill-clause-own g c = owns_ended _ _ _ _ _ _ _ _ _ _ _ _ _ _ _ c.loop-count.invariant.0 _ _ _ c.in_ok-commit_batch.ensures.commits
+
+pub returns-then-branch-clause-own : goal.returns-then-branch-clause-own
+returns-then-branch-clause-own g c = owns_ended _ _ _ _ _ _ _ _ _ _ _ _ _ _ _ c.loop-count.invariant.0 _ _ _ c.in_ok-commit_batch.ensures.commits

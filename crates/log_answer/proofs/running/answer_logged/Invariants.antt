@@ -11,3 +11,4 @@ invariant-loop-count g l =
     (g.W.Write.contents l.output.writer) l.batch.asked.items l.batch.text.items l.fn.place l.place (g.H.LogHost.acts l.fn.log) (g.H.LogHost.acts l.log)
     × (l.silo.stopped ≡ false) × (g.H.LogHost.failed l.log ≡ g.H.LogHost.failed l.fn.log)
     × (l.output.calls.failed ≡ l.fn.output.calls.failed)
+    × (g.H.LogHost.begun l.log ≡ g.H.LogHost.begun l.fn.log)

@@ -1,39 +1,27 @@
-use Rattle.std.proofs.Common.{◌∙◌, arith, ap, refl, sym}
+use Rattle.std.proofs.Common.{◌∙◌, arith, ap, sym}
 use Rattle.log_text.specs.Sums.{after}
 use Rattle.log_text.proofs.Stands.{same_from_text}
-use Rattle.log_answer.proofs.Kept.{err_by, err_none, ok_by, ok_none}
-use Rattle.log_answer.proofs.Passed.{again_all, again_more, again_none, again_refused, fault_few, room_more}
-use Rattle.log_answer.proofs.starting.answer_again.Goals.{in-Some-fault_behind, in-None}
+use Rattle.log_answer.proofs.Passed.{again_all, again_kept, again_more, again_none, again_refused, room_more}
 use Rattle.log_answer.proofs.starting.answer_again.Goals as goal
 
 pub batches-init : goal.batches-init
 batches-init g c = (again_none _ _ c.args.place c.args.bytes.now _ c.journal.ensures.leads (c.journal.ensures.idle c.requires), c.requires)
 
-pub overflow_add-result-in-Some-fault_behind : goal.overflow_add-result-in-Some-fault_behind
-overflow_add-result-in-Some-fault_behind g c =
-    let few = fault_few c.args.place.name c.batches.rest.now c.in-Some-fault_behind.found (sym c.in-Some-fault_behind.ensures) in
-    omega (arith, c.batches.invariant.0.room, few)
-
 pub returns-in_default-clause-answered : goal.returns-in_default-clause-answered
 returns-in_default-clause-answered g c =
-    let done = c.batches.invariant.0 in
-    let none = c.in_default.ensures.read in
-    elim c.match-fault_behind.branch [
-      | in-Some-fault_behind w ↦ ok_none _ _ _ w.result-is
-      | in-None w ↦ ok_by _ _ _ w.result-is (again_all _ _ _ _ _ _ _ _ _ _ _ done none _ refl refl refl (sym w.in-None.ensures))
-    ]
+    let end = c.end_again.ensures in
+    again_all _ _ _ _ _ _ _ _ _ _ _ c.batches.invariant.0 c.in_default.ensures.read c.end_again.result end.place end.lines end.passes
+
+pub returns-in_default-clause-kept : goal.returns-in_default-clause-kept
+returns-in_default-clause-kept g c =
+    again_kept _ _ _ _ _ _ _ _ _ _ _ c.batches.invariant.0 c.in_default.ensures.read c.end_again.result c.end_again.ensures.length
 
 pub returns-in_default-clause-stops : goal.returns-in_default-clause-stops
 returns-in_default-clause-stops g c =
-    let done = c.batches.invariant.0 in
-    let none = c.in_default.ensures.read in
-    elim c.match-fault_behind.branch [
-      | in-Some-fault_behind w ↦ err_by _ _ _ w.result-is (again_refused _ _ _ _ _ _ _ _ _ _ _ done none _ _ (sym w.in-Some-fault_behind.ensures) refl)
-      | in-None w ↦ err_none _ _ _ w.result-is
-    ]
+    again_refused _ _ _ _ _ _ _ _ _ _ _ c.batches.invariant.0 c.in_default.ensures.read c.end_again.result c.end_again.ensures.refused
 
-pub overflow_add-result-then-not-says-2 : goal.overflow_add-result-then-not-says-2
-overflow_add-result-then-not-says-2 g c =
+pub overflow_add-result-then-not-says : goal.overflow_add-result-then-not-says
+overflow_add-result-then-not-says g c =
     omega (arith, room_more _ _ _ _ _ _ _ _ _ _ _ c.batches.invariant.0 _ _ c.in-Some.ensures.read c.in_ok-count.ensures.count)
 
 pub overflow_add-lines : goal.overflow_add-lines
