@@ -4,18 +4,19 @@ use Rattle.silo_model.specs.Opening.{Setup, opening}
 use Rattle.silo_core.specs.History.{History}
 use Rattle.journal_text.specs.Text.{journal_text}
 use Rattle.command_parts.specs.Files.{FileClaims}
-use Rattle.command_parts.specs.Journals.{HasNoDifference, silo_journal}
+use Rattle.command_parts.specs.Journals.{HasNoDifference, ReadsAgain, silo_journal}
 use Rattle.command_parts.specs.Setups.{Start, Version}
 use Rattle.command_parts.specs.declared.failure.Cause.{Cause}
 use Rattle.command_parts.specs.declared.failure.Cause.TheVariants as cause
 
 -- ---- the silo's journal
 
--- The journal of the silo was written to the path, once and nothing else. The file at the path may have it, and in it no
--- tenant differs from its machine.
+-- The journal of the silo was written to the path, once and nothing else. The file at the path may have it. It keeps a journal's rules,
+-- and in it no tenant differs from its machine.
 pub record HoldsJournal (version : Version) (files : FileClaims) (path : List ℕ) (silo : History) : Type 0 where
   pub written : files.written path (journal_text (silo_journal version silo))
   pub held : files.may_hold path (journal_text (silo_journal version silo))
+  pub is_journal : ReadsAgain version silo
   pub no_difference : HasNoDifference version silo
 
 -- the same, if a path is given
@@ -61,10 +62,11 @@ WritesFirstAtMost start files (Some path) = files.same ⊎ files.written path (e
 -- ---- the one, and then the other
 
 -- The journal of no step was written to the path, then that of the silo, and nothing else. The file at the path may have the
--- second, and in it no tenant differs from its machine.
+-- second. It keeps a journal's rules, and in it no tenant differs from its machine.
 pub record HoldsSecond (start : Start) (files : FileClaims) (path : List ℕ) (silo : History) : Type 0 where
   pub written : files.written_again path (empty_journal start) (journal_text (silo_journal start.version silo))
   pub held : files.may_hold path (journal_text (silo_journal start.version silo))
+  pub is_journal : ReadsAgain start.version silo
   pub no_difference : HasNoDifference start.version silo
 
 -- the same, if a path is given

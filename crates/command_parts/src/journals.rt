@@ -1,8 +1,10 @@
 //! Keeping the journal of a silo in a file.
 
-ghost use Rattle.std.specs.Prelude.{◌≡◌, [], IfErr, OnOk, option_map};
+ghost use Rattle.std.specs.Prelude.{◌≡◌, [], IfErr, IfOk, OnOk, option_map};
 ghost use Rattle.std.specs.FinMap.{entries};
+ghost use Rattle.journal_text.specs.Text.{journal_text};
 ghost use Rattle.command_parts.specs.Files.{claims};
+ghost use Rattle.command_parts.specs.Journals.{HasNoDifference, ReadsAgain, silo_journal};
 ghost use Rattle.command_parts.specs.Kept.{IsKeepingCause, KeepsJournal, WritesAtMost};
 ghost use Rattle.command_parts.specs.Setups.{version_of};
 
@@ -12,7 +14,21 @@ use grain_logic::GrainLogic;
 use grain_storage::GrainStorage;
 use silo_core::Silo;
 use silo_journal::write_journal;
-use std::alloc::Global;
+use std::alloc::{AllocError, Global};
+
+/// The text of the silo's journal, under the number of its logic.
+fn text_of<S: GrainStorage, L: GrainLogic>(
+    alloc: Global,
+    silo: &Silo<S, L>,
+    kinds: u8,
+) -> Result<Vec<u8>, AllocError>
+    requires { entries silo.now.setup.rows ≡ [] }
+    ensures text { IfOk result (λ text. text.items ≡ journal_text (silo_journal (version_of L.logic kinds) silo.now)) }
+    ensures is_journal { OnOk result (ReadsAgain (version_of L.logic kinds) silo.now) }
+    ensures no_difference { OnOk result (HasNoDifference (version_of L.logic kinds) silo.now) }
+{
+    write_journal(alloc, silo, kinds)
+}
 
 /// Writes the journal of the silo, under the number of its logic, to the file at the path, if there is a path.
 pub fn keep_journal<F: WholeFiles, S: GrainStorage, L: GrainLogic>(
@@ -32,7 +48,7 @@ pub fn keep_journal<F: WholeFiles, S: GrainStorage, L: GrainLogic>(
     let Some(path) = journal else {
         return Ok(());
     };
-    let Ok(text) = write_journal(alloc, silo, kinds) else {
+    let Ok(text) = text_of(alloc, silo, kinds) else {
         return Err(Cause::Memory);
     };
     match files.write_whole(alloc, path, text.as_slice()) {

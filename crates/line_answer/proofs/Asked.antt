@@ -20,16 +20,17 @@ use Rattle.line_parser.specs.Meaning.{meaning_of}
 use Rattle.line_parser.specs.declared.line.Line.{Line}
 use Rattle.line_parser.specs.declared.line.Line.TheVariants as line
 use Rattle.line_parser.specs.declared.line.LineRefusal.TheVariants.{NotARequest}
-use Rattle.line_protocol.specs.LineTexts.{ended, texts_of, said_lines}
+use Rattle.line_protocol.specs.LineTexts.{ended, texts_of, texts_to, said_lines}
 use Rattle.line_protocol.specs.Text.{refusal_line, not_now_line}
 use Rattle.line_protocol.proofs.Saids.{said_lines-more}
 use Rattle.answer_model.specs.Answering.{Stepper, Asked, taken, is_asked, whole_stepper, answering, answered, all_answered}
 use Rattle.answer_model.specs.Idle.{AllIdle, TellsAsker}
 use Rattle.answer_model.proofs.Idle.{answered_at_once}
 use Rattle.answer_model.proofs.Apart.{tenants_apart}
-use Rattle.line_answer.specs.Texts.{Heard, asked_if, asks_by, asks_of, text_if, all_steps, step_text, line_text, lines_text}
+use Rattle.line_answer.specs.Texts.{Heard, asked_if, asks_by, asks_of, text_if, all_steps, step_text, line_text, line_texts, lines_text}
 use Rattle.line_answer.specs.Trying.{Tries, AnswersAsked}
 use Rattle.line_answer.specs.Runs.{AnswersLine, AnswersLines}
+use Rattle.line_answer.proofs.OwnTexts.{own_texts}
 use Rattle.line_answer.proofs.Trying.{tries_none, tries_on}
 
 -- ---- lists of what is asked
@@ -177,4 +178,7 @@ module _ (logic : Logic) (n : ℕ) where
     own = λ tenant.
         ap (shown_to tenant) (p.tries.whole ∙ run_all (whole_stepper logic) n old.whole (asks_of p.heard))
         ∙ tenants_apart logic old.setup old.journal old.whole n tenant (asks_of p.heard) leads;
+    texts = λ tenant.
+        ap (λ saids. texts_to tenant saids (line_texts (whole_stepper logic) n old.whole p.heard)) (sym p.said)
+        ∙ own_texts logic old.setup n tenant p.heard old.whole (old.journal, leads);
   }

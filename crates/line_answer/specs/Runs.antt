@@ -8,7 +8,7 @@ use Rattle.line_parser.specs.Meaning.{meaning_of}
 use Rattle.line_parser.specs.declared.line.Line.{Line}
 use Rattle.line_protocol.specs.Limits.{calls_limit}
 use Rattle.line_protocol.specs.Lines.{lines_of}
-use Rattle.line_protocol.specs.LineTexts.{said_lines}
+use Rattle.line_protocol.specs.LineTexts.{said_lines, texts_to}
 use Rattle.line_protocol.specs.LineRuns.{WrittenInPart}
 use Rattle.line_protocol.specs.Reading.{Reading, AreTaken, AreTakenButOne, left_of}
 use Rattle.line_protocol.specs.declared.written.WriterCalls.{WriterCalls}
@@ -18,7 +18,7 @@ use Rattle.answer_model.specs.Answering.{Luck, whole_stepper, machine_stepper, a
 use Rattle.answer_model.specs.Apart.{asked_by}
 use Rattle.answer_model.specs.Idle.{AllIdle}
 use Rattle.line_answer.specs.Limits.{IsAnsweredOut}
-use Rattle.line_answer.specs.Texts.{Heard, asks_by, asks_of, all_steps, line_text, lines_text}
+use Rattle.line_answer.specs.Texts.{Heard, asks_by, asks_of, all_steps, heard_to, line_text, line_texts, lines_text}
 use Rattle.line_answer.specs.Trying.{Tries}
 
 -- a silo that answers at once: its history, and whether it stopped for want of memory
@@ -32,7 +32,8 @@ AnswersLine logic n old said new text =
     (lucks : List Luck) × Tries logic old (all_steps (whole_stepper logic) n old.whole (asks_by said lucks)) new
     × (text ≡ line_text (whole_stepper logic) n old.whole said lucks) × AllIdle new.whole.entries
 
--- So it was for these lines. Each tenant is shown what its own machine is after what the tenant and nobody asked alone.
+-- So it was for these lines. Each tenant is shown what its own machine is after what the tenant and nobody asked alone; and the texts
+-- of the lines that concern it are what that machine writes for these lines alone, with the same luck.
 pub record AnswersLines (logic : Logic) (n : ℕ) (old : History) (lines : List (List ℕ)) (new : History) (text : List ℕ) : Type 0 where
   pub heard : List Heard
   pub said : map (λ h. h.said) heard ≡ said_lines lines
@@ -41,6 +42,8 @@ pub record AnswersLines (logic : Logic) (n : ℕ) (old : History) (lines : List 
   pub idle : AllIdle new.whole.entries
   pub own : (tenant : List ℕ) → shown_to tenant new.whole ≡ all_answered (machine_stepper logic) n (shown_to tenant old.whole)
       (asked_by tenant (asks_of heard))
+  pub texts : (tenant : List ℕ) → texts_to tenant (said_lines lines) (line_texts (whole_stepper logic) n old.whole heard)
+      ≡ line_texts (machine_stepper logic) n (shown_to tenant old.whole) (heard_to tenant heard)
 
 -- All of the input was read, it has so many lines, each was answered, and what was written is their text and nothing else.
 pub record AnswersAll (logic : Logic) (n : ℕ) (input : List ℕ) (count : ℕ) (old new : History)

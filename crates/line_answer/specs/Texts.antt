@@ -1,10 +1,10 @@
 -- What is written for lines that are answered at once. It is told once, of the whole of all tenants and of the machine of one.
-use Rattle.std.specs.Prelude.{ℕ, Bool, true, false, List, [], ◌∷◌, ◌++◌, length, drop, Option, Some, None}
+use Rattle.std.specs.Prelude.{ℕ, Bool, true, false, List, [], ◌∷◌, ◌++◌, length, drop, filter, Option, Some, None}
 use Rattle.silo_event.specs.declared.step.Step.{Step}
 use Rattle.line_parser.specs.declared.line.Line.{Line}
 use Rattle.line_parser.specs.declared.line.Line.TheVariants as line
 use Rattle.line_parser.specs.declared.line.LineRefusal.TheVariants.{NotARequest}
-use Rattle.line_protocol.specs.LineTexts.{ended, texts_of}
+use Rattle.line_protocol.specs.LineTexts.{ended, joined, line_concerns, texts_of}
 use Rattle.line_protocol.specs.Text.{refusal_line, not_now_line}
 use Rattle.answer_model.specs.Answering.{Luck, Stepper, Asked, taken, is_asked, answering, answered, all_answered}
 
@@ -58,7 +58,17 @@ module _ {M : Type 0} (by : Stepper M) (n : ℕ) where
   line_text m (line.Refusal r) lucks = ended (refusal_line r)
   line_text m (line.Step s) lucks = step_text (is_asked s) m s lucks
 
+  -- what is written for each line, one after another
+  abbrev pub line_texts : M → List Heard → List (List ℕ)
+  line_texts m [] = []
+  line_texts m (h ∷ heard) = line_text m h.said h.lucks ∷ line_texts (all_answered by n m (asks_by h.said h.lucks)) heard
+
   -- and for all of them
   abbrev pub lines_text : M → List Heard → List ℕ
-  lines_text m [] = []
-  lines_text m (h ∷ heard) = line_text m h.said h.lucks ++ lines_text (all_answered by n m (asks_by h.said h.lucks)) heard
+  lines_text m heard = joined (line_texts m heard)
+
+-- ---- the lines of one tenant
+
+-- the lines that concern the tenant, in order, each with its luck: the others are struck out
+abbrev pub heard_to : List ℕ → List Heard → List Heard
+heard_to tenant heard = filter (λ h. line_concerns tenant h.said) heard

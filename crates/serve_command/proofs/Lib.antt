@@ -1,3 +1,4 @@
 mod NoRows
 pub mod Stops
 pub mod ServingLemmas
+pub mod AskedJournals

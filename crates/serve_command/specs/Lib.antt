@@ -1,3 +1,4 @@
 pub mod Lanes
 pub mod Telling
 pub mod Serving
+pub mod Laws

@@ -1,5 +1,4 @@
 use Rattle.std.proofs.Common.{Ok, refl, ap, ◌∙◌, arith}
-use Rattle.line_protocol.specs.declared.fault.LineFault.TheVariants as fault
 use Rattle.line_protocol.proofs.LinesOfBytes.{LinesTaken-self}
 use Rattle.line_protocol.proofs.ReadLines.{same_said, handed}
 use Rattle.line_protocol.proofs.Run.{cause_of_flushing, cause_of_reading, nothing_ahead, ahead_at_flushing}
