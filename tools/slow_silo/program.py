@@ -20,7 +20,7 @@ from .silo import DEFAULT_AGE, Setup, Silo
 
 MAX_WORKERS = 64
 DEFAULT_WORKERS = 4
-VERSION = b"silo 0.1.0\n"
+VERSION = b"silo 0.2.0\n"
 FINE, BROKEN, BAD_WORDS, DIFFERS, BAD_JOURNAL = range(5)
 
 

@@ -307,7 +307,7 @@ WORDS = [
     Row("words: the least numbers", ["steps", "--age", "1", "a:1:1"], [], []),
     Row("words: the greatest numbers", ["steps", "--age=86400000", "a-b-1:10000:1000"], [], []),
     Row("words: the age behind the tenant", ["steps", "red:2:4", "--age", "900000"], [], []),
-    Row("words: the version, in short", ["-V"], FIRST_CALL + up(A) + run(A, 1), ["silo 0.1.0"]),
+    Row("words: the version, in short", ["-V"], FIRST_CALL + up(A) + run(A, 1), ["silo 0.2.0"]),
 ]
 
 # ---- lanes

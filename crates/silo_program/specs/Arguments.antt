@@ -20,7 +20,7 @@ no_ages_text = codes "silo: ages are refused" ++ 10 ∷ []
 
 -- the line that tells the version
 abbrev pub version_text : List ℕ
-version_text = codes "silo 0.1.0" ++ 10 ∷ []
+version_text = codes "silo 0.2.0" ++ 10 ∷ []
 
 -- ---- what faults become
 

@@ -41,7 +41,7 @@ use tenant_gate::Age;
 use worker_host::{FreeGate, TurnGate};
 
 /// What `--version` shows.
-const VERSION_LINE: &str = "silo 0.1.0\n";
+const VERSION_LINE: &str = "silo 0.2.0\n";
 
 /// Writes a text that was asked for.
 fn show<W: Write>(output: &mut Output<W>, text: &str) -> Result<End, ProgramFault>

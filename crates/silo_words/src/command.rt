@@ -15,7 +15,7 @@ use std::alloc::{AllocError, Global};
 const PROGRAM: &str = "silo";
 
 /// The version of the program.
-const VERSION: &str = "0.1.0";
+const VERSION: &str = "0.2.0";
 
 /// An option that takes a text, by the name that stands behind its two hyphens.
 fn text_option<'a>(alloc: Global, name: &'a str, value: &'a str, help: &'a str) -> Arg<'a>
