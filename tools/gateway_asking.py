@@ -18,10 +18,15 @@ from typing import Optional
 
 from silo import Silo, SiloEnded, SiloError, SiloTimeout, aio
 
-# how long an answer may take, also while the gateway and the program are started again
+# how long an answer may take on a quiet machine, also while the gateway and the program are started again
 SECONDS = 25.0
 THREADS, TASKS, UNDER_WAY = 3, 3, 20
 LOST, NO_KIND = 90, 22
+
+
+def patience(seconds: float) -> float:
+    """As long as that takes where more processes want to run than there are processors."""
+    return seconds * max(1.0, os.getloadavg()[0] / (os.cpu_count() or 1))
 
 
 class Log:
@@ -46,7 +51,7 @@ class Log:
         elif isinstance(outcome, SiloEnded) or isinstance(outcome, SiloError) and outcome.code == LOST:
             self.write("unknown", grain)
         elif isinstance(outcome, SiloTimeout):
-            self.write("strange", f"{grain} got no answer in {SECONDS:g} s")
+            self.write("strange", f"{grain} got no answer in {outcome.seconds:g} s")
         else:
             self.write("strange", f"{grain} was told {outcome!r}")
 
@@ -56,7 +61,7 @@ class Log:
             if word not in outcome.text:
                 self.write("strange", f"{word} was told {outcome.text}")
         elif isinstance(outcome, SiloTimeout):
-            self.write("strange", f"{word} got no answer in {SECONDS:g} s")
+            self.write("strange", f"{word} got no answer in {outcome.seconds:g} s")
         elif not isinstance(outcome, SiloEnded) and not (isinstance(outcome, SiloError) and outcome.code == LOST):
             self.write("strange", f"{word} was told {outcome!r}")
 
@@ -66,7 +71,7 @@ def connected(address: str, log: Log) -> Optional[Silo]:
     if log.is_over:
         return None
     try:
-        return Silo.connect(address, timeout=SECONDS)
+        return Silo.connect(address, timeout=patience(SECONDS))
     except (OSError, SiloEnded):
         time.sleep(0.02)
         return None
@@ -151,7 +156,7 @@ async def by_tasks(address: str, log: Log) -> None:
 
     while not log.is_over:
         try:
-            silo = await aio.Silo.connect(address, timeout=SECONDS).start()
+            silo = await aio.Silo.connect(address, timeout=patience(SECONDS)).start()
         except (OSError, SiloEnded):
             await asyncio.sleep(0.02)
             continue

@@ -13,6 +13,7 @@ import sys
 import time
 from typing import Dict, List, NamedTuple, Optional, Tuple
 
+from gateway_asking import patience
 from silo import Silo, SiloEnded, SiloError
 from tests import beside
 from tests.beside import CLIENT
@@ -20,7 +21,7 @@ from tests.gateways import Gateway
 
 TOOLS = pathlib.Path(__file__).resolve().parent
 CLIENTS = 4
-# how long it may take until somebody is answered again, on a busy machine: a program that ends at once is started again after 5 s
+# how long it may take until somebody is answered again, on a quiet machine: a program that ends at once is started again after 5 s
 MOST_SECONDS = 30.0
 VICTIMS = ("program", "gateway", "client")
 TENANTS = ("red:10000:4", "blue:100:4")
@@ -78,7 +79,7 @@ class Arena:
             client.process.terminate()
         for client in self._clients:
             try:
-                client.process.wait(MOST_SECONDS)
+                client.process.wait(patience(MOST_SECONDS))
             except subprocess.TimeoutExpired:
                 self.hung.append(f"a client doesn't end: {client.log.name}")
         found = [read_log(log) for log in self._logs if log.exists()]
@@ -124,18 +125,29 @@ class Arena:
     def _wait_for_answers(self, what: str) -> bool:
         """Waits until each client is told something more."""
         before = [client.told() for client in self._clients]
-        until = time.monotonic() + MOST_SECONDS
+        begun = time.monotonic()
         while any(client.told() <= length for client, length in zip(self._clients, before)):
-            if time.monotonic() > until:
-                self.hung.append(f"behind {what} a client was told nothing for {MOST_SECONDS:g} s: {self._gateways[-1].told()[-400:]}")
+            seconds = time.monotonic() - begun
+            if seconds > patience(MOST_SECONDS):
+                still = [client.log.name for client, length in zip(self._clients, before) if client.told() <= length]
+                self.hung.append(f"behind {what} {still} were told nothing for {seconds:.0f} s: {self._state()}")
                 return False
             time.sleep(0.005)
         return True
 
+    def _state(self) -> str:
+        """What the gateway has told, and what it says is under way."""
+        gateway = self._gateways[-1]
+        try:
+            lines = [line for line in gateway.page("/metrics").splitlines() if line.startswith(("silo_held", "silo_under_way", "silo_conn", "silo_up"))]
+        except OSError as fault:
+            lines = [f"no page: {fault}"]
+        return f"{gateway.told()[-400:]} {lines}"
+
     def _lost(self, life: Life) -> List[str]:
         """Counters that have fewer than was told, or more than was asked."""
         found = []
-        with Silo.connect(self._gateways[-1].address(), timeout=MOST_SECONDS) as silo:
+        with Silo.connect(self._gateways[-1].address(), timeout=patience(MOST_SECONDS)) as silo:
             for grain, (told, unknown) in life.counters.items():
                 for _ in range(100):
                     try:

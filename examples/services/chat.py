@@ -10,7 +10,7 @@ from __future__ import annotations
 import asyncio
 import re
 import sys
-from typing import List
+from typing import List, Optional
 
 from silo import SiloEnded, SiloError, SiloTimeout, aio
 
@@ -52,8 +52,19 @@ class Unread(aio.Counter):
 
 
 class Chat:
-    def __init__(self, silo: aio.Silo) -> None:
-        self._web = silo.client("chat/web")
+    """What users may ask for. It connects to the gateway anew if that has ended."""
+
+    def __init__(self, gateway: str) -> None:
+        self._gateway = gateway
+        self._silo: Optional[aio.Silo] = None
+        self._connecting = asyncio.Lock()
+
+    async def connect(self) -> aio.Silo:
+        async with self._connecting:
+            if self._silo is None:
+                self._silo = await aio.Silo.connect(self._gateway).start()
+                self._web = self._silo.client("chat/web")
+            return self._silo
 
     async def join(self, room: str, user: str) -> str:
         members, rooms = Members(self._web, room), Rooms(self._web, user)
@@ -100,6 +111,15 @@ class Chat:
 
     async def obey(self, user: str, words: List[str]) -> str:
         """What a line of a user is answered."""
+        silo = await self.connect()
+        try:
+            return await self._obey(user, words)
+        except SiloEnded:
+            if self._silo is silo:
+                self._silo = None
+            raise
+
+    async def _obey(self, user: str, words: List[str]) -> str:
         if words == ["unread"]:
             return await self.unread(user)
         if len(words) < 2 or not NAME.fullmatch(words[1]):
@@ -120,6 +140,8 @@ async def talk(chat: Chat, reader: asyncio.StreamReader, writer: asyncio.StreamW
                 told = await chat.obey(user, line.decode(errors="replace").strip().split(" ", 2))
             except (SiloError, SiloTimeout, SiloEnded) as fault:
                 told = f"this may or may not be done: {fault}"
+            except OSError:
+                told = "nothing is done: the gateway isn't there"
             writer.write(f"{told or '-'}\n".encode())
             await writer.drain()
     except (ConnectionError, ValueError):
@@ -130,12 +152,12 @@ async def talk(chat: Chat, reader: asyncio.StreamReader, writer: asyncio.StreamW
 
 
 async def main(gateway: str, port: int) -> None:
-    async with aio.Silo.connect(gateway) as silo:
-        chat = Chat(silo)
-        server = await asyncio.start_server(lambda reader, writer: talk(chat, reader, writer), "127.0.0.1", port, limit=MOST_BYTES)
-        print(f"listens at port {server.sockets[0].getsockname()[1]}", flush=True)
-        async with server:
-            await server.serve_forever()
+    chat = Chat(gateway)
+    await chat.connect()
+    server = await asyncio.start_server(lambda reader, writer: talk(chat, reader, writer), "127.0.0.1", port, limit=MOST_BYTES)
+    print(f"listens at port {server.sockets[0].getsockname()[1]}", flush=True)
+    async with server:
+        await server.serve_forever()
 
 
 if __name__ == "__main__":

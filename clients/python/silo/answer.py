@@ -15,6 +15,10 @@ LOG = logging.getLogger("silo")
 MOST_LOCKED_SECONDS = 5.0
 # the states of a future whose waiting was given up
 CANCELLED = ("CANCELLED", "CANCELLED_AND_NOTIFIED")
+# in the place of an outcome that hasn't come yet
+NONE_YET = object()
+# in the place of a condition: the outcome came before anybody needed one
+SETTLED = object()
 
 
 class Answer(concurrent.futures.Future[Any]):
@@ -23,20 +27,36 @@ class Answer(concurrent.futures.Future[Any]):
     Callbacks run in the silo's thread of callbacks, or at once if the answer is there; `wait` and `as_completed` of `concurrent.futures`
     are told by that thread too, so a callback waits by `result`. Who waits in `result` waits at a latch and
     not at the future's condition, which an interrupt may leave locked: then the thread that reads would wait for ever.
+
+    Most answers are there before anybody waits, and have no callback: so latch, condition and lists are made by who needs them first.
+    What is looked for and made so is one entry of the object's dictionary, which is set by one call of C.
     """
 
     # what `concurrent.futures` keeps of a future
-    _state: str
-    _condition: threading.Condition
+    _state = "PENDING"
+    _result: Any = None
+    _exception: Optional[BaseException] = None
     _waiters: List[Any]
     _done_callbacks: List[Any]
+    _outcome: Any = NONE_YET
 
     def __init__(self, seconds: float, later: Callable[[Callable[[], None]], None]) -> None:
-        super().__init__()
+        # not that of a future, which makes all that it may need
         self._seconds = seconds
         self._later = later
-        self._latch = Latch()
-        self._outcome: Any = None
+
+    @property
+    def _condition(self) -> threading.Condition:
+        made: Any = self.__dict__.get("made")
+        if made is None:
+            for name in ("_waiters", "_done_callbacks"):
+                self.__dict__.setdefault(name, [])
+            made = self.__dict__.setdefault("made", threading.Condition())
+        if made is SETTLED:
+            self._state = "FINISHED"
+            made = self.__dict__.setdefault("made_late", threading.Condition())
+        condition: threading.Condition = made
+        return condition
 
     def result(self, timeout: Optional[float] = None) -> Any:
         """The value, or raises a SiloError, SiloEnded or SiloTimeout."""
@@ -50,16 +70,16 @@ class Answer(concurrent.futures.Future[Any]):
         return outcome if isinstance(outcome, BaseException) else None
 
     def done(self) -> bool:
-        return self._latch.is_open
+        return self._outcome is not NONE_YET or self.cancelled()
 
     def cancelled(self) -> bool:
         return self._state in CANCELLED
 
     def cancel(self) -> bool:
         """Gives up waiting. The silo isn't told, and may do what was asked."""
-        if self.done() and not self.cancelled() or not super().cancel():
+        if self._outcome is not NONE_YET and not self.cancelled() or not super().cancel():
             return False
-        self._latch.open()
+        self._open()
         return True
 
     def put(self, outcome: Any) -> None:
@@ -68,7 +88,9 @@ class Answer(concurrent.futures.Future[Any]):
         What has callbacks, or is waited for by the functions of `concurrent.futures`, is settled in the thread of callbacks.
         """
         self._outcome = outcome
-        self._latch.open()
+        self._open()
+        if self.__dict__.setdefault("made", SETTLED) is SETTLED:
+            return
         if self._condition.acquire(blocking=False):
             try:
                 if not self._done_callbacks and not self._waiters and self._state == "PENDING":
@@ -78,10 +100,19 @@ class Answer(concurrent.futures.Future[Any]):
                 self._condition.release()
         self._later(self._settle)
 
+    def _open(self) -> None:
+        """Wakes who waits in `result`: the outcome, or that it is waited for no longer, was set before."""
+        latch = self.__dict__.get("latch")
+        if latch is not None:
+            latch.open()
+
     def _wait(self, timeout: Optional[float]) -> Any:
-        seconds = self._seconds if timeout is None else timeout
-        if not self._latch.wait(seconds):
-            raise SiloTimeout(seconds)
+        if self._outcome is NONE_YET and not self.cancelled():
+            seconds = self._seconds if timeout is None else timeout
+            latch: Latch = self.__dict__.setdefault("latch", Latch())
+            # looked at again behind the latch: who opens it has set this first
+            if not self.done() and not latch.wait(seconds):
+                raise SiloTimeout(seconds)
         if self.cancelled():
             raise concurrent.futures.CancelledError
         return self._outcome

@@ -102,11 +102,13 @@ class Exchange:
         asker, number = reply.get("from"), reply.get("id")
         if type(asker) is str:
             outcome = reply["ok"] if "ok" in reply else outcome_of(reply)
-            if "id" in reply:
-                slot = self._asked.pop((asker, number), None) if type(number) is int else None
+            if type(number) is int:
+                slot = self._asked.pop((asker, number), None)
                 if slot is None:
                     raise StrangeReply(f"{reply!r} answers nothing that was asked")
                 slot.put(outcome)
+            elif "id" in reply:
+                raise StrangeReply(f"{reply!r} answers nothing that was asked")
             elif self._on_told is not None:
                 self._on_told(asker, outcome)
         elif reply == {"text": "not now"}:

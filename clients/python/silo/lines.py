@@ -14,9 +14,8 @@ MOST_BYTES = 65_536
 SWEEP = b'{"op":"sweep"}\n'
 # a line that says no step: it is answered with 10 once all before it is answered, and leaves nothing
 FENCE = b"fence\n"
-# the members beside `op`, `from` and `id` that a request needs, and those that it may have
-NEEDED = {"call": frozenset(("grain", "method")), "poke": frozenset(("grain", "state")), "status": frozenset()}
-TAKEN = {**NEEDED, "call": frozenset(("grain", "method", "args"))}
+# the members beside `op`, `from` and `id` that other requests than calls have
+NEEDED = {"poke": frozenset(("grain", "state")), "status": frozenset()}
 
 
 class StrangeReply(Exception):
@@ -54,16 +53,17 @@ def poke_members(grain: str, state: Value) -> str:
 
 def members_of(op: str, members: Dict[str, Any]) -> str:
     """The members of a call, a poke or a status by their names; a ValueError if they aren't those that it has."""
-    if op not in NEEDED or not NEEDED[op] <= members.keys() <= TAKEN[op]:
-        raise ValueError(f"{op!r} with {sorted(members)} is no request")
-    if op == "call":
+    if op == "call" and "grain" in members and "method" in members and len(members) == 2 + ("args" in members):
         return call_members(members["grain"], members["method"], members.get("args"))
+    if op not in NEEDED or NEEDED[op] != members.keys():
+        raise ValueError(f"{op!r} with {sorted(members)} is no request")
     return poke_members(**members) if op == "poke" else ""
 
 
 def request_line(op: str, caller: str, number: int, members: str) -> bytes:
     """A line that is answered under the caller's number."""
-    return bytes_of(f'{{"op":"{op}","from":"{caller}","id":{number}{members}}}')
+    line = f'{{"op":"{op}","from":"{caller}","id":{number}{members}}}\n'.encode()
+    return line if len(line) <= MOST_BYTES + 1 else bytes_of(line[:-1].decode())
 
 
 def tick_line(now: int) -> bytes:
@@ -74,10 +74,9 @@ def read_replies(lines: bytes) -> Iterable[Dict[str, Any]]:
     """What the silo told by these lines, of which the last has no LF; StrangeReply where no silo tells that."""
     read = READ_WITH_BYTES if HEX_IN_JSON in lines else READ_PLAIN
     try:
-        told = lines.decode().split("\n")
         # read as one list, which is quicker than one by one
-        replies, _ = read(f"[{','.join(told)}]")
-        if len(replies) == len(told) and all(type(reply) is dict for reply in replies):
+        replies, _ = read(f"[{lines.decode()}]".replace("\n", ","))
+        if len(replies) == lines.count(b"\n") + 1 and set(map(type, replies)) == {dict}:
             return cast(List[Dict[str, Any]], replies)
     except (ValueError, RecursionError):
         pass

@@ -67,7 +67,9 @@ def map_json(members: Dict[Any, Any], levels: int) -> str:
     for name, inner in members.items():
         if not isinstance(name, str):
             raise TypeError(f"{name!r} is no name of a member: it has to be a text")
-        parts.append(f"{quoted_name(name)}:{json_of(inner, levels)}")
+        # most are numbers, which need no call
+        is_number = type(inner) is int and levels > 0 and LEAST_NUMBER <= inner <= MOST_NUMBER
+        parts.append(f"{quoted_name(name)}:{inner if is_number else json_of(inner, levels)}")
     return f"{{{','.join(parts)}}}"
 
 

@@ -331,7 +331,7 @@ class Programs(Case, unittest.IsolatedAsyncioTestCase):
     async def test_one_with_data_has_more_time_for_its_first_answer(self) -> None:
         lane = Lane("red", "red", 10, 10**6)
         desk = Desk([lane], Lane("own", "", 10, 10**6), asyncio.get_running_loop().call_soon)
-        reply = "write(b'{\"from\":\"red/web\",\"id\":1,\"ok\":1}\\n')"
+        reply = "write(b'{\"from\":\"red/web\",\"id\":3,\"ok\":1}\\n')"
         keeper = Keeper([self.stub(f"read()\ntime.sleep(1)\n{reply}\nwhile read(): pass"), "--data", "d"], desk, lambda: None)
         guest = Kept(desk, lane)
         with mock.patch("silo.gateway.keeper.MOST_SECONDS_DEAF", 0.2), mock.patch("silo.gateway.keeper.tell"):

@@ -10,28 +10,32 @@ from typing import Any, Callable, List
 from unittest import mock
 
 from silo.gateway import desk as desks
-from silo.gateway.asked import read_line
+from silo.gateway.asked import Block, Reader, asked_by
 from silo.gateway.desk import Desk
 from silo.gateway.figures import Histogram, Page
 from silo.gateway.guest import Guest
 from silo.gateway.lane import HALF_LIFE, Lane
-from silo.gateway.pieces import Pieces
-from silo.gateway.replied import read_reply
+from silo.gateway.pieces import TOO_LONG, Pieces
+from silo.gateway.replied import keys_of, says_no_request, tenant_told
 from silo.lines import StrangeReply
 
 from .gateways import call, echo
 
 
+def read(line: bytes, tenant: str = "red") -> Block:
+    (block,) = Reader(tenant).read([line])
+    return block
+
+
 def given(line: bytes, tenant: str = "red") -> bytes:
-    """What the program is given, if the gateway's number is 77."""
-    said = read_line(line, tenant)
-    return said.before + (b"77" + said.after if said.caller else b"")
+    """What the program is given for a line."""
+    return read(line, tenant).given
 
 
 class Asked(unittest.TestCase):
     def test_a_line_that_clients_write_stays_as_it_is(self) -> None:
         line = call(12, method="put", args={"name": "x", "value": [1, {"a": None}]})[:-1]
-        self.assertEqual(given(line), line.replace(b'"id":12', b'"id":77'))
+        self.assertEqual((given(line), read(line).keys), (line + b"\n", [b'red/web","id":12']))
 
     def test_any_other_line_is_written_anew(self) -> None:
         for line in (
@@ -39,17 +43,33 @@ class Asked(unittest.TestCase):
             b'{"op":"status","id":1,"from":"red/web","id":12}',
             b'{"op":"status","from":"r\\u0065d/web","id":12}', b'{"op":"status","from":"blue/x","id":12,"from":"red/web"}',
         ):  # fmt: skip
-            self.assertEqual(given(line), b'{"op":"status","from":"red/web","id":77}', line)
+            self.assertEqual(given(line), b'{"op":"status","from":"red/web","id":12}\n', line)
 
     def test_both_ways_of_reading_say_the_same(self) -> None:
         chance = random.Random(7)
         values = [1, "x", None, True, [[]], {"a": 1}, {"$hex": "00ff"}, "\u00e9\u2028\U0001f600", -(2**63), {"id": 3, "from": "blue/web"}]
         for _ in range(300):
             line = call(chance.randrange(10**6), method=chance.choice(["put", "add", "\u00e9"]), args=chance.choice(values))[:-1]
-            odd = b" " + line
-            plain, anew = read_line(line, "red"), read_line(odd, "red")
-            self.assertEqual((plain.caller, plain.number, plain.instead), (anew.caller, anew.number, None))
-            self.assertEqual(json.loads(plain.before + b"1" + plain.after), json.loads(anew.before + b"1" + anew.after))
+            plain, anew = read(line), read(b" " + line)
+            self.assertEqual([*plain.keys], [*anew.keys])
+            self.assertEqual(json.loads(plain.given), json.loads(anew.given))
+
+    def test_lines_are_read_together_as_they_are_one_by_one(self) -> None:
+        chance = random.Random(5)
+        odd = [b"x", TOO_LONG, call(1, "blue/web")[:-1], b' {"op":"status","from":"red/web","id":12}', b'{"op":"sweep"}', call(4, args={"id": 1})[:-1]]
+        for number in range(200):
+            lines = [chance.choice([call(number)[:-1], echo(number, "r")[:-1]]) for _ in range(chance.randrange(1, 9))]
+            if number % 2:
+                lines.insert(chance.randrange(len(lines) + 1), chance.choice(odd))
+            together, alone = [*Reader("red").read(lines)], [read(line) for line in lines]
+            self.assertEqual(len(together), len(lines) if number % 2 else 1)
+            self.assertEqual(b"".join(block.given for block in together), b"".join(block.given for block in alone))
+            self.assertEqual([key for block in together for key in block.keys], [key for block in alone for key in block.keys])
+            self.assertEqual([block.instead for block in together if not block.keys], [block.instead for block in alone if not block.keys])
+
+    def test_a_line_within_a_line_is_none(self) -> None:
+        within = b"x" + call(1)[:-1]
+        self.assertEqual([block.given for block in Reader("red").read([call(1)[:-1], within])], [call(1), b"fence\n"])
 
     def test_nothing_is_given_of_lines_that_others_answer(self) -> None:
         steps = (b'{"op":"tick","now":1}', b'{"op":"sweep"}', b'{"op":"activate","grain":"counter/red:a"}')
@@ -71,7 +91,8 @@ class Asked(unittest.TestCase):
                     said = json.loads(told)
                 except ValueError:
                     continue
-                self.assertEqual((said["from"].partition("/")[0], said["id"]), ("red", 77), bytes(line))
+                self.assertEqual((said["from"].encode(), b"%d" % said["id"]), asked_by(read(bytes(line)).keys[0]), bytes(line))
+                self.assertEqual(said["from"].partition("/")[0], "red", bytes(line))
 
 
 class Split(unittest.TestCase):
@@ -83,7 +104,7 @@ class Split(unittest.TestCase):
             length = chance.choice([1, 3, 100, 16_384])
             found += pieces.feed(data[:length])
             data = data[length:]
-        self.assertEqual(found + pieces.last(), [line if len(line) <= 65_536 else None for line in lines if line])
+        self.assertEqual(found + pieces.last(), [line if len(line) <= 65_536 else TOO_LONG for line in lines if line])
         self.assertEqual(pieces.last(), [])
 
     def test_no_more_than_a_line_is_kept(self) -> None:
@@ -91,7 +112,7 @@ class Split(unittest.TestCase):
         for _ in range(100):
             self.assertEqual(pieces.feed(b"x" * 16_384), [])
         self.assertLessEqual(len(pieces._torn), 65_536)
-        self.assertEqual(pieces.feed(b"\nnext\n"), [None, b"next"])
+        self.assertEqual(pieces.feed(b"\nnext\n"), [TOO_LONG, b"next"])
 
 
 class Kept(Guest):
@@ -101,19 +122,30 @@ class Kept(Guest):
         super().__init__(lane, 10_000, desk.lines_wait, lambda guest: None, desk.close_later)
         self.heard: List[Any] = []
 
-    def tell(self, reply: bytes) -> None:
-        self.heard += [json.loads(line) for line in reply.splitlines()]
+    def tell(self, replies: bytes) -> None:
+        self.heard += [json.loads(line) for line in replies.splitlines()]
+
+
+def reply_to(line: bytes) -> bytes:
+    """What the program replies to a line."""
+    try:
+        said = json.loads(line)
+    except ValueError:
+        return b'{"error":10,"text":"line is not a request"}\n'
+    return b'{"error":22,"from":"%b","id":%d,"text":"x"}\n' % (said["from"].encode(), said["id"])
 
 
 class Turns(unittest.TestCase):
     def setUp(self) -> None:
+        # what is put off: nothing but where lines take long to read
         self.later: List[Callable[[], None]] = []
+        self.is_slow = False
         # however slow this machine is
         patched = mock.patch("silo.gateway.desk.MOST_SECONDS_AT_ONCE", 60.0)
         patched.start()
         self.addCleanup(patched.stop)
         self.lanes = {name: Lane(name, name, 10_000, 10**9) for name in ("red", "blue", "")}
-        self.desk = Desk([*self.lanes.values()], Lane("own", "", 10, 10), self.later.append)
+        self.desk = Desk([*self.lanes.values()], Lane("own", "", 10, 10), lambda call: self.later.append(call) if self.is_slow else call())
         self.written: List[bytes] = []
         # how long the program has worked
         self.worked = 0.0
@@ -129,10 +161,9 @@ class Turns(unittest.TestCase):
         self.desk.open(lambda data: self.written.extend(data.splitlines()), lambda: self.worked)
         self.desk.fill()
         tenants = [json.loads(line)["from"].partition("/")[0] for line in self.written]
-        self.assertEqual(tenants[:5], ["red", "blue", "red", "blue", "red"])
-        # no tenant has more than so many under way
-        self.assertEqual(tenants.count("red"), 64)
-        self.assertEqual({len(guest.waiting) for guest in red}, {68})
+        self.assertEqual(tenants, ["red"] * 32 + ["blue"] * 2 + ["red"] * 32)
+        # no tenant has more than so many under way, and its connections have as many each
+        self.assertEqual({len(guest.next_lines(100)[0]) for guest in red}, {68})
 
     def test_who_takes_long_is_given_less_at_once(self) -> None:
         guest = Kept(self.desk, self.lanes["red"])
@@ -143,11 +174,13 @@ class Turns(unittest.TestCase):
         # nor do lines that take little hide that, but time does
         self.answer(100, 0.0)
         self.assertEqual(self.lanes["red"].written, 1)
-        later = time.monotonic() + 9 * HALF_LIFE
-        with mock.patch("silo.gateway.desk.time.monotonic", lambda: later):
-            self.answer(1, 0.0)
-            self.assertEqual(self.lanes["red"].written, 64)
-        self.assertEqual([said["id"] for said in guest.heard], [*range(165)])
+        for lives, most in ((7, 80), (20, 256)):
+            later = time.monotonic() + lives * HALF_LIFE
+            with mock.patch("silo.gateway.desk.time.monotonic", lambda: later):
+                self.answer(1, 0.0)
+                self.assertLessEqual(self.lanes["red"].written, most)
+        self.assertEqual(self.lanes["red"].written, 256)
+        self.assertEqual([said["id"] for said in guest.heard], [*range(166)])
 
     def test_who_takes_little_isnt_taken_for_who_takes_long(self) -> None:
         for name in ("red", "blue"):
@@ -158,13 +191,13 @@ class Turns(unittest.TestCase):
             now += 0.2 * HALF_LIFE
             with mock.patch("silo.gateway.desk.time.monotonic", lambda: now):
                 self.answer_together(1 if turn % 2 else len(self.written), 0.004)
-        self.assertEqual([self.lanes[name].written for name in ("red", "blue")], [1, 64])
+        self.assertEqual([self.lanes[name].written for name in ("red", "blue")], [1, 256])
 
     def answer_together(self, count: int, seconds: float) -> None:
         """The program answers so many lines at once, and works so long on each of red's."""
-        lines, self.written[:count] = [json.loads(line) for line in self.written[:count]], []
-        self.worked += seconds * sum(said["from"] == "red/web" for said in lines)
-        self.desk.feed(b"".join(b'{"error":22,"from":"%b","id":%d,"text":"x"}\n' % (said["from"].encode(), said["id"]) for said in lines))
+        lines, self.written[:count] = self.written[:count], []
+        self.worked += seconds * sum(b'"red/web"' in line for line in lines)
+        self.desk.feed(b"".join(map(reply_to, lines)))
 
     def test_waiting_for_a_disk_is_no_work(self) -> None:
         guest = Kept(self.desk, self.lanes["red"])
@@ -172,22 +205,30 @@ class Turns(unittest.TestCase):
         for _ in range(100):
             self.desk.moved_at -= 0.01
             self.answer(1, 0.0)
-        self.assertEqual(self.lanes["red"].written, 64)
+        self.assertGreaterEqual(self.lanes["red"].written, 64)
 
     def answer(self, count: int, seconds: float) -> None:
         """The program answers so many of red's lines, and works so long on each."""
         for _ in range(count):
-            said = json.loads(self.written.pop(0))
             self.worked += seconds
-            self.desk.feed(b'{"error":22,"from":"red/web","id":%d,"text":"x"}\n' % said["id"])
+            self.desk.feed(reply_to(self.written.pop(0)))
 
     def test_lines_that_take_long_to_read_hold_nobody_up(self) -> None:
-        guest = Kept(self.desk, self.lanes["red"])
+        guest, self.is_slow = Kept(self.desk, self.lanes["red"]), True
         with mock.patch("silo.gateway.desk.MOST_SECONDS_AT_ONCE", 0.0):
-            guest.take(b"".join(echo(number, "r") for number in range(10)))
+            guest.take(b"".join(b" " + echo(number, "r") for number in range(10)))
             self.assertEqual((len(self.written), len(self.later)), (1, 1))
         self.later.pop()()
         self.assertEqual((len(self.written), len(self.later)), (10, 0))
+
+    def test_lines_of_several_go_together(self) -> None:
+        guests, self.is_slow = [Kept(self.desk, self.lanes["red"]) for _ in range(3)], True
+        for number, guest in enumerate(guests):
+            guest.take(echo(number, "r"))
+        # nothing was under way when the first came
+        self.assertEqual((len(self.written), len(self.later)), (1, 1))
+        self.later.pop()()
+        self.assertEqual([json.loads(line)["id"] for line in self.written], [0, 1, 2])
 
     def test_connections_that_wait_for_room_are_read_in_turn(self) -> None:
         lane = Lane("red", "red", 2, 10**9)
@@ -196,7 +237,7 @@ class Turns(unittest.TestCase):
             lane.stop(guest)
         lane.hold(3, 0)
         for wanted in ([0, 0, 0], [1, 0, 0], [1, 1, 1]):
-            lane.let_go(0)
+            lane.let_go(1, 0)
             self.assertEqual([guest.look.call_count for guest in guests], wanted)
 
     def test_no_reply_strays(self) -> None:
@@ -212,6 +253,29 @@ class Turns(unittest.TestCase):
             text = "program has ended, and whether this was done is not known"
             self.assertEqual(guest.heard, [{"error": 90, "from": "red/web", "id": 5, "text": text}])
             self.setUp()
+
+    def test_replies_in_any_pieces(self) -> None:
+        chance = random.Random(13)
+        for _ in range(200):
+            self.setUp()
+            guests = [Kept(self.desk, self.lanes[name]) for name in ("red", "red", "blue")]
+            wanted: List[List[Any]] = [[], [], []]
+            for number in range(chance.randrange(1, 30)):
+                place = chance.randrange(3)
+                guests[place].take(echo(number, "x", f"{guests[place].lane.tenant}/web"))
+                wanted[place].append(number)
+            # a line that the program takes for no request, and something that a grain is told
+            guests[0].take(call(77)[:-2] + b"\n" + call(78))
+            replies = b"".join(reply_to(line) for line in self.written) + b'{"error":40,"from":"relay/red:r","text":"x"}\n'
+            while replies:
+                length = chance.choice([1, 30, 200, 1_000])
+                self.desk.feed(replies[:length])
+                replies = replies[length:]
+            wanted[0] += [None, 78, None]
+            self.assertEqual([[said.get("id") for said in guest.heard] for guest in guests], wanted)
+            self.assertTrue(self.desk.is_idle)
+            self.assertEqual([(lane.held_bytes, lane.written) for lane in self.lanes.values()], [(0, 0)] * 3)
+            self.assertEqual((self.desk._written, self.desk._bytes_written), (0, 0))
 
     def test_what_is_left_when_the_program_ends(self) -> None:
         guest, operator = Kept(self.desk, self.lanes["red"]), Kept(self.desk, self.lanes[""])
@@ -259,9 +323,11 @@ class Figures(unittest.TestCase):
         self.assertEqual(lines[-3:], ['h_bucket{tenant="red",le="+Inf"} 4', 'h_sum{tenant="red"} 9.003600', 'h_count{tenant="red"} 4'])
 
     def test_replies_as_the_silo_writes_them(self) -> None:
-        found = read_reply(b'{"error":40,"from":"red/web","id":12,"text":"\\"id\\":13"}')
-        self.assertEqual((found.caller, found.number, found.start, found.end), (b"red/web", b"12", 34, 36))
-        self.assertEqual(read_reply(b'{"error":40,"from":"relay/red:\\"x","text":"y"}').told, "red")
+        answer, told = b'{"error":40,"from":"red/web","id":12,"text":"\\"id\\":13"}', b'{"error":40,"from":"relay/red:\\"x","text":"y"}'
+        fenced, not_now = b'{"error":10,"text":"line is not a request"}', b'{"text":"not now"}'
+        self.assertEqual(keys_of(b"\n".join([answer, told, fenced, not_now, b"", b""])), [b'red/web","id":12', b"", b"", b"", b""])
+        self.assertEqual([tenant_told(line) for line in (answer, told, fenced, not_now)], [None, "red", None, None])
+        self.assertEqual([says_no_request(line) for line in (answer, told, fenced, not_now)], [False, False, True, False])
 
 
 if __name__ == "__main__":

@@ -35,6 +35,8 @@ class Silo:
     `on_told` is called by the loop. A timeout comes up to a twentieth of a second late.
     """
 
+    _again: Optional[List[str]]
+
     def __init__(
         self,
         *tenants: str,
@@ -74,7 +76,7 @@ class Silo:
         self._seconds = math.inf if timeout is None else timeout
         self._is_started = False
         self._stream: Optional[Stream] = None
-        self._again: Optional[List[str]] = None
+        self._again = None
         # until what was started again is open
         self._opening: Optional[asyncio.Task[None]] = None
 

@@ -1,84 +1,115 @@
-"""What a line of a connection asks, and the line that the program is given in its place."""
+"""What lines of a connection ask, and what the program is given in their place."""
 
 from __future__ import annotations
 
 import json
 import re
-from typing import Any, Dict, NamedTuple, Optional, Tuple
+from typing import Any, Dict, Iterator, List, NamedTuple, Optional, Sequence, Tuple
 
+from silo.gateway.pieces import TOO_LONG
 from silo.gateway.told import LONG, NOT_NOW, REFUSED, other_tenant
 from silo.lines import FENCE, MOST_BYTES
 from silo.names import WORD
 from silo.strict import read_step
 
-# a request as clients write it, with its caller and its number first; what is behind may be anything
-PLAIN = re.compile(rb'\{"op":"(?:call|poke|status)","from":"((%b)/%b)","id":(0|[1-9][0-9]{0,17})(?=[,}])' % (WORD.encode(), WORD.encode()))
+WORD_BYTES = WORD.encode()
+# what stands between the caller and the number, in a request as clients write it and in its reply
+MIDST = b'","id":'
 # what might say one of these once more: then the line is read as a whole, since the last counts
-AGAIN = (b'"from"', b'"id"', b'"op"', b"\\u")
+ONCE = (b'"from"', b'"id"', b'"op"')
+ESCAPE = b"\\u"
 STEPS = ("tick", "sweep")
 
 
-class Line(NamedTuple):
-    """What the program is given for a line: just one line, which it answers by just one, so that replies are told apart by their order too.
+class Block(NamedTuple):
+    """Lines as the program is given them: requests, each of which it answers by one reply with that request's key, and in their order.
 
-    A request is written as `before`, a number of the gateway's and `after`. Any other line is a fence, and its answer is `instead`.
+    Any other line of a connection is a block by itself, without keys. The program is given one fence for it, and the answer is `instead`.
     """
 
-    caller: bytes
-    number: bytes
-    before: bytes
-    after: bytes
-    instead: Optional[bytes]
+    given: bytes
+    # the caller and the number of each request, with what stands between them
+    keys: Sequence[bytes]
+    instead: bytes = b""
     # a tick or a sweep, which may be answered by 'not now' before its fence is
     is_step: bool = False
 
 
-def answered(instead: bytes) -> Line:
+def request(head: bytes, caller: bytes, number: bytes, rest: bytes) -> Block:
+    """One request; `head` is what stands before its caller, and `rest` what stands behind its number."""
+    key = caller + MIDST + number
+    return Block(b"%b%b%b\n" % (head, key, rest), (key,))
+
+
+def asked_by(key: bytes) -> Tuple[bytes, bytes]:
+    """The caller and the number of a key."""
+    caller, _, number = key.partition(MIDST)
+    return caller, number
+
+
+def answered(instead: bytes) -> Block:
     """A line that the program doesn't see."""
-    return Line(b"", b"", FENCE, b"", instead)
+    return Block(FENCE, (), instead)
 
 
-NO_REQUEST, TOO_LONG, NOT_THEIRS = answered(REFUSED), answered(LONG), answered(NOT_NOW)
+def step(line: bytes) -> Block:
+    return Block(line + FENCE, (), b"", True)
 
 
-def read_line(line: Optional[bytes], tenant: str) -> Line:
-    """What a line asks that came by a tenant's socket, or by the operator's, whose tenant is ''."""
-    if line is None:
-        return TOO_LONG
-    found = PLAIN.match(line)
-    if found is not None:
-        caller, named, number = found.groups()
-        before, after = line[: found.start(3)], line[found.end(3) :]
-        if not any(word in after for word in AGAIN):
-            return request(caller, named, number, before, after, tenant)
-    return read_odd_line(line, tenant)
+class Reader:
+    """Reads what comes by a tenant's socket, or by the operator's, whose tenant is ''."""
+
+    def __init__(self, tenant: str) -> None:
+        self._tenant = tenant
+        # a request as clients write it, with its caller and its number first; what is behind may be anything
+        head = rb'^\{"op":"(?:call|poke|status)","from":"(%b/%b","id":(?:0|[1-9][0-9]{0,17}))[,}].*\n'
+        self._plain = re.compile(head % (tenant.encode() or WORD_BYTES, WORD_BYTES), re.MULTILINE)
+
+    def read(self, lines: List[bytes]) -> Iterator[Block]:
+        """Blocks for these lines: one if all are written as clients write them, else one for each."""
+        given = b"\n".join(lines) + b"\n"
+        keys = self._plain.findall(given)
+        if len(keys) == len(lines) and is_said_once(given, len(lines)):
+            yield Block(given, keys)
+            return
+        for line in lines:
+            yield self.read_line(line)
+
+    def read_line(self, line: bytes) -> Block:
+        if line == TOO_LONG:
+            return answered(LONG)
+        given = line + b"\n"
+        found = self._plain.match(given)
+        if found is not None and is_said_once(given, 1):
+            return Block(given, (found[1],))
+        return self._read_odd_line(line)
+
+    def _read_odd_line(self, line: bytes) -> Block:
+        """The same of a line in any other form. It is written anew, so that the program reads in it what was read here."""
+        try:
+            said = read_step(line)
+            if said["op"] in STEPS:
+                return answered(NOT_NOW) if self._tenant else step(json_of(said) + b"\n")
+            head, caller, number, rest = written_anew(said)
+        except (ValueError, RecursionError):
+            return answered(REFUSED)
+        if len(head) + len(caller) + len(MIDST) + len(number) + len(rest) > MOST_BYTES:
+            return answered(LONG)
+        if self._tenant and caller.partition(b"/")[0].decode() != self._tenant:
+            return answered(other_tenant(caller, number, self._tenant))
+        return request(head, caller, number, rest)
 
 
-def request(caller: bytes, named: bytes, number: bytes, before: bytes, after: bytes, tenant: str) -> Line:
-    if tenant and named.decode() != tenant:
-        return answered(other_tenant(caller, number, tenant))
-    return Line(caller, number, before, after, None)
-
-
-def read_odd_line(line: bytes, tenant: str) -> Line:
-    """The same of a line in any other form. It is written anew, so that the program reads in it what was read here."""
-    try:
-        said = read_step(line)
-        if said["op"] in STEPS:
-            return NOT_THEIRS if tenant else Line(b"", b"", json_of(said) + b"\n" + FENCE, b"", b"", True)
-        caller, number, before, after = written_anew(said)
-    except (ValueError, RecursionError):
-        return NO_REQUEST
-    if len(before) + len(number) + len(after) > MOST_BYTES:
-        return TOO_LONG
-    return request(caller, caller.partition(b"/")[0], number, before, after, tenant)
+def is_said_once(given: bytes, count: int) -> bool:
+    """Whether so many lines, each of which has these members in its head, have none of them once more."""
+    return ESCAPE not in given and all([given.count(word) == count for word in ONCE])
 
 
 def written_anew(said: Dict[str, Any]) -> Tuple[bytes, bytes, bytes, bytes]:
     caller, number = said.pop("from").encode(), b"%d" % said.pop("id")
-    before = b'{"op":"%b","from":"%b","id":' % (said.pop("op").encode(), caller)
+    head = b'{"op":"%b","from":"' % said.pop("op").encode()
     rest = json_of(said)
-    return caller, number, before, b"," + rest[1:] if said else b"}"
+    return head, caller, number, b"," + rest[1:] if said else b"}"
 
 
 def json_of(said: Dict[str, Any]) -> bytes:

@@ -6,12 +6,12 @@ import asyncio
 import json
 import time
 
-from silo.gateway.asked import Line
+from silo.gateway.asked import request, step
 from silo.gateway.desk import Desk
 from silo.gateway.lane import Lane
 from silo.gateway.log import tell
 from silo.gateway.told import NOT_NOW
-from silo.lines import FENCE, SWEEP, tick_line
+from silo.lines import SWEEP, tick_line
 
 # the client as whom it asks what a tenant has
 CLIENT = b"gateway"
@@ -27,15 +27,15 @@ class OwnAsker:
         self.answered_at = time.monotonic()
         self._was_refused = False
 
-    def tell(self, reply: bytes) -> None:
-        if reply == NOT_NOW and not self._was_refused:
+    def tell(self, replies: bytes) -> None:
+        if replies == NOT_NOW and not self._was_refused:
             self._was_refused = True
             tell("warning", f"the silo takes no {self.name} now: the clock of this machine may have gone back")
 
     def flush(self) -> None:
         pass
 
-    def let_go(self, length: int) -> None:
+    def let_go(self, count: int, length: int) -> None:
         self.is_waiting = False
         self.count += 1
         self.answered_at = time.monotonic()
@@ -47,15 +47,15 @@ class StatusAsker:
     def __init__(self, lane: Lane) -> None:
         self._lane = lane
 
-    def tell(self, reply: bytes) -> None:
-        said = json.loads(reply)
+    def tell(self, replies: bytes) -> None:
+        said = json.loads(replies)
         if isinstance(said.get("ok"), dict):
             self._lane.status = said["ok"]
 
     def flush(self) -> None:
         pass
 
-    def let_go(self, length: int) -> None:
+    def let_go(self, count: int, length: int) -> None:
         pass
 
 
@@ -95,8 +95,7 @@ class Clock:
             if lane.tenant and self._asked_of[lane.tenant] != lane.requests:
                 self._asked_of[lane.tenant] = lane.requests
                 caller = b"%b/%b" % (lane.tenant.encode(), CLIENT)
-                before = b'{"op":"status","from":"%b","id":' % caller
-                self._desk.ask(StatusAsker(lane), Line(caller, b"0", before, b"}", None))
+                self._desk.ask(StatusAsker(lane), request(b'{"op":"status","from":"', caller, b"0", b"}"))
 
-    def _step(self, asker: OwnAsker, step: bytes) -> None:
-        asker.is_waiting = self._desk.ask(asker, Line(b"", b"", step + FENCE, b"", b"", True))
+    def _step(self, asker: OwnAsker, line: bytes) -> None:
+        asker.is_waiting = self._desk.ask(asker, step(line))

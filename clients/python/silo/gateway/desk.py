@@ -4,33 +4,39 @@ from __future__ import annotations
 
 import collections
 import time
-from typing import Callable, Deque, Dict, List, Optional, Protocol, Set, Tuple
+from typing import Callable, Deque, Dict, List, Optional, Protocol, Sequence, Set, Tuple
 
-from silo.gateway.asked import Line, answered, read_line
+from silo.gateway.asked import Block, answered, asked_by
 from silo.gateway.guest import Guest
 from silo.gateway.lane import Lane
-from silo.gateway.replied import Reply, read_reply
+from silo.gateway.replied import NOT_NOW_LINE, keys_of, says_no_request, tenant_told
 from silo.gateway.told import LOST, NOT_NOW, fault_to
-from silo.lines import MOST_BYTES, StrangeReply
+from silo.lines import StrangeReply
 
 # lines that the program is given before it has answered them, at most, and their bytes
-MOST_WRITTEN = 256
+MOST_WRITTEN = 512
 MOST_BYTES_WRITTEN = 1_048_576
+# lines that are given while each who waits has one turn, about: a turn has fewer the more wait
+LINES_OF_A_ROUND = 256
+# what reading some lines and writing what they are answered takes by itself: no line costs that
+SECONDS_OF_READING = 0.000_03
 # how long lines are read before connections are looked at again
 MOST_SECONDS_AT_ONCE = 0.002
 NOTHING = (0, 0)
+# how a reply begins that says a code, of two digits
+FAULT = b'{"error":'
 # the operator's tenant
 OPERATOR = ""
 
 
 class Asker(Protocol):
-    """Who is told what a line is answered: a connection, or the gateway itself."""
+    """Who is told what lines are answered: a connection, or the gateway itself."""
 
-    def tell(self, reply: bytes) -> None: ...
+    def tell(self, replies: bytes) -> None: ...
 
     def flush(self) -> None: ...
 
-    def let_go(self, length: int) -> None: ...
+    def let_go(self, count: int, length: int) -> None: ...
 
 
 class LastWords:
@@ -39,31 +45,38 @@ class LastWords:
     def __init__(self, guest: Guest) -> None:
         self._guest = guest
 
-    def tell(self, reply: bytes) -> None:
+    def tell(self, replies: bytes) -> None:
         pass
 
     def flush(self) -> None:
         pass
 
-    def let_go(self, length: int) -> None:
+    def let_go(self, count: int, length: int) -> None:
         self._guest.flush()
         self._guest.close()
 
 
 class Asked:
-    """A line that the program was given."""
+    """A block that the program was given, when its lines were read, and their bytes."""
 
-    __slots__ = ("asker", "lane", "line", "number", "since", "length")
+    __slots__ = ("asker", "lane", "keys", "block", "since", "length", "at")
 
-    def __init__(self, asker: Asker, lane: Lane, line: Line, number: bytes, since: float, length: int) -> None:
-        self.asker, self.lane, self.line, self.number, self.since, self.length = asker, lane, line, number, since, length
+    def __init__(self, asker: Asker, lane: Lane, block: Block, since: float, length: int) -> None:
+        self.asker, self.lane, self.keys, self.block, self.since, self.length = asker, lane, block.keys, block, since, length
+        # which of its requests is the oldest that isn't answered
+        self.at = 0
+
+    @property
+    def left(self) -> int:
+        """How many lines the program owes an answer."""
+        return len(self.keys) - self.at or not self.keys
 
 
 class Desk:
     """Gives the program lines, tenants in turn, and hands each reply to the connection that asked.
 
-    The program answers line by line, so the oldest line that isn't answered is the one that a reply answers. Its caller and its number,
-    which is the gateway's, have to be that line's too: anything else is a StrangeReply, and nobody is told it.
+    The program answers line by line, so the oldest line that isn't answered is the one that a reply answers. Its caller and its number
+    have to be that line's too: anything else is a StrangeReply, and nobody is told it.
     """
 
     def __init__(self, lanes: List[Lane], own: Lane, later: Callable[[Callable[[], None]], object]) -> None:
@@ -75,8 +88,7 @@ class Desk:
         self.own = own
         self._turns: Deque[Lane] = collections.deque()
         self._asked: Deque[Asked] = collections.deque()
-        self._bytes_written = 0
-        self._number = 0
+        self._written = self._bytes_written = 0
         self._last: Optional[Asked] = None
         self._torn: List[bytes] = []
         self._to_flush: Set[Asker] = set()
@@ -103,14 +115,14 @@ class Desk:
         self._torn.clear()
         while self._asked:
             asked = self._asked.popleft()
-            if asked.line.is_step:
-                self._hand(asked.asker, NOT_NOW)
-            elif asked.line.instead is not None:
-                self._hand(asked.asker, asked.line.instead)
+            lost = asked.keys[asked.at :]
+            if lost:
+                asked.lane.lost += len(lost)
+                told = b"".join([fault_to(LOST, *asked_by(key)) for key in lost])
             else:
-                asked.lane.lost += 1
-                self._hand(asked.asker, fault_to(LOST, asked.line.caller, asked.line.number))
-            self._let_go(asked)
+                told = NOT_NOW if asked.block.is_step else asked.block.instead
+            self._hand(asked.asker, told)
+            self._let_go(asked, asked.left)
         self._flush()
 
     @property
@@ -128,14 +140,18 @@ class Desk:
         """A connection has lines that wait."""
         guest.lane.wait(guest)
         self._wait(guest.lane)
-        self.fill()
+        if self._asked:
+            # others may have lines, too: all go in one write
+            self._fill_later()
+        else:
+            self.fill()
 
-    def ask(self, asker: Asker, line: Line) -> bool:
+    def ask(self, asker: Asker, block: Block) -> bool:
         """Asks on the gateway's own account, without a turn; false if the program doesn't run."""
         if self._write is None:
             return False
         self.own.hold(1, 0)
-        self._write(self._put(Asked(asker, self.own, line, b"", time.monotonic(), 0)))
+        self._write(self._put(Asked(asker, self.own, block, time.monotonic(), 0)))
         return True
 
     def close_later(self, guest: Guest) -> None:
@@ -145,33 +161,47 @@ class Desk:
 
     def fill(self) -> None:
         """Gives the program as many lines as it may have."""
+        self._is_later = False
         if self._write is None:
             return
-        lines: List[bytes] = []
+        given: List[bytes] = []
         until = time.monotonic() + MOST_SECONDS_AT_ONCE
         is_late = False
-        while self._turns and not is_late and len(self._asked) < MOST_WRITTEN and self._bytes_written < MOST_BYTES_WRITTEN:
+        while self._turns and not is_late and self._written < MOST_WRITTEN and self._bytes_written < MOST_BYTES_WRITTEN:
             lane = self._turns.popleft()
             lane.is_in_turn = False
             guest = lane.next_guest()
             if guest is None:
                 continue
-            line, since = guest.waiting.popleft()
-            said = read_line(line, lane.tenant)
-            lines.append(self._put(Asked(guest, lane, said, b"", since, 0 if line is None else len(line))))
+            is_late = self._take_turn(lane, guest, given, until)
             if guest.waiting:
                 lane.wait(guest)
             self._wait(lane)
-            is_late = time.monotonic() >= until
-        if lines:
-            self._write(b"".join(lines))
-        if self._turns and is_late and not self._is_later:
-            self._is_later = True
-            self._later(self._fill_on)
+        if given:
+            self._write(b"".join(given))
+        if self._turns and is_late:
+            self._fill_later()
 
-    def _fill_on(self) -> None:
-        self._is_later = False
-        self.fill()
+    def _take_turn(self, lane: Lane, guest: Guest, given: List[bytes], until: float) -> bool:
+        """Adds what a connection is given in its turn; true if reading that took too long."""
+        share = min(lane.most_written, LINES_OF_A_ROUND // (1 + len(self._turns))) // (1 + lane.guests_in_turn)
+        room = min(lane.most_written - lane.written, MOST_WRITTEN - self._written)
+        lines, since = guest.next_lines(max(1, min(share, room)))
+        at = 0
+        for block in lane.reader.read(lines):
+            count = len(block.keys) or 1
+            length = sum(map(len, lines[at : at + count]))
+            given.append(self._put(Asked(guest, lane, block, since, length)))
+            at += count
+            if time.monotonic() >= until:
+                break
+        guest.take_lines(at)
+        return at < len(lines) or time.monotonic() >= until
+
+    def _fill_later(self) -> None:
+        if not self._is_later:
+            self._is_later = True
+            self._later(self.fill)
 
     def _wait(self, lane: Lane) -> None:
         if not lane.is_in_turn and lane.may_write:
@@ -179,39 +209,31 @@ class Desk:
             self._turns.append(lane)
 
     def _put(self, asked: Asked) -> bytes:
-        """The line as the program is given it, whose reply is waited for from now on."""
+        """The lines as the program is given them, whose replies are waited for from now on."""
         if not self._asked:
             self.moved_at = time.monotonic()
         self._asked.append(asked)
+        self._written += asked.left
         self._bytes_written += asked.length
-        asked.lane.written += 1
-        line = asked.line
-        if not line.caller:
-            return line.before
-        asked.lane.requests += 1
-        self._number += 1
-        asked.number = b"%d" % self._number
-        # by a longer number the line may become too long: then it keeps its own
-        if len(line.before) + len(asked.number) + len(line.after) > MOST_BYTES:
-            asked.number = line.number
-        return b"%b%b%b\n" % (line.before, asked.number, line.after)
+        asked.lane.written += asked.left
+        asked.lane.requests += len(asked.keys)
+        return asked.block.given
 
     # ---- what is replied
 
     def feed(self, data: bytes) -> None:
         """Takes what the program wrote, in pieces of any length; StrangeReply if no silo writes that to what was asked."""
-        end = data.rfind(b"\n")
-        if end < 0:
+        end = data.rfind(b"\n") + 1
+        if not end:
             self._torn.append(data)
             return
-        lines = b"".join([*self._torn, data[:end]]).split(b"\n")
-        self._torn = [data[end + 1 :]]
+        whole = b"".join([*self._torn, data[:end]])
+        self._torn = [data[end:]]
         self.moved_at = now = time.monotonic()
         worked = self._worked()
-        seconds, self._had_worked = worked - self._had_worked, worked
+        seconds, self._had_worked = max(0.0, worked - self._had_worked - SECONDS_OF_READING), worked
         try:
-            for line in lines:
-                self._take(line, now)
+            self._take(whole, now)
         finally:
             self._weigh(seconds, now)
             self._flush()
@@ -229,40 +251,57 @@ class Desk:
             lane.weigh(seconds * lane.weight / whole, longest, now)
         self._answered.clear()
 
-    def _take(self, line: bytes, now: float) -> None:
-        reply = read_reply(line)
-        if reply.told:
-            self._hand_told(reply.told, line)
+    def _take(self, whole: bytes, now: float) -> None:
+        """Takes whole lines: together what answers requests of one block, and anything else by itself."""
+        lines, keys = whole.split(b"\n"), keys_of(whole)
+        at = 0
+        while at < len(keys):
+            if not keys[at]:
+                self._take_odd_line(lines[at], now)
+                at += 1
+                continue
+            if not self._asked:
+                raise StrangeReply(f"{lines[at][:80]!r} answers nothing")
+            asked = self._asked[0]
+            count = agreeing(keys[at : at + asked.left], asked.keys[asked.at :])
+            if not count:
+                raise StrangeReply(f"{lines[at][:80]!r} answers another request than the oldest")
+            self._tell(asked, lines[at : at + count], now)
+            at += count
+
+    def _take_odd_line(self, line: bytes, now: float) -> None:
+        """Takes a line that has no request's number."""
+        told = tenant_told(line)
+        if told is not None:
+            self._hand_told(told, line)
             return
         if not self._asked:
             raise StrangeReply(f"{line[:80]!r} answers nothing")
         asked = self._asked[0]
-        if reply.is_not_now:
-            if not asked.line.is_step:
-                raise StrangeReply("a request is answered by 'not now'")
-            self._hand(asked.asker, line + b"\n")
-            return
-        self._hand(asked.asker, self._answer(asked, reply, line))
-        self._asked.popleft()
-        self._last = asked
-        count, longest = self._answered.get(asked.lane, NOTHING)
-        self._answered[asked.lane] = (count + 1, longest if longest > len(line) else len(line))
-        if asked.line.caller:
-            asked.lane.latency.note(now - asked.since)
-        self._let_go(asked)
-
-    def _answer(self, asked: Asked, reply: Reply, line: bytes) -> bytes:
-        """What the asker is told for what the program replied."""
-        said = asked.line
-        if not reply.caller:
+        if says_no_request(line):
             # the program takes the line for no request, which is said to it as it came
-            instead = line + b"\n" if said.instead is None else said.instead
-            count_fault(asked.lane, instead)
-            return instead
-        if reply.caller != said.caller or reply.number != asked.number:
-            raise StrangeReply(f"{line[:80]!r} answers another request than the oldest")
-        count_fault(asked.lane, line)
-        return b"%b%b%b\n" % (line[: reply.start], said.number, line[reply.end :])
+            self._tell(asked, [line] if asked.keys else asked.block.instead.splitlines(), now)
+        elif line == NOT_NOW_LINE and asked.block.is_step:
+            self._hand(asked.asker, NOT_NOW)
+        else:
+            raise StrangeReply(f"{line[:80]!r} is no reply to the oldest")
+
+    def _tell(self, asked: Asked, replies: List[bytes], now: float) -> None:
+        """Tells replies to the oldest lines of the oldest block: to one line, if it is a fence."""
+        count = len(replies) if asked.keys else 1
+        if replies:
+            told = b"\n".join(replies) + b"\n"
+            self._hand(asked.asker, told)
+            if FAULT in told:
+                count_faults(asked.lane, replies)
+        if asked.keys:
+            asked.lane.latency.note(now - asked.since, count)
+        found, longest = self._answered.get(asked.lane, NOTHING)
+        self._answered[asked.lane] = (found + count, max(longest, max(map(len, replies), default=0)))
+        self._last = asked
+        if count == asked.left:
+            self._asked.popleft()
+        self._let_go(asked, count)
 
     def _hand_told(self, tenant: str, line: bytes) -> None:
         """What a grain is told comes behind a line of its tenant, and goes to the connection that this line came by."""
@@ -276,15 +315,19 @@ class Desk:
             # the gateway's own line was the last: then any connection of the tenant has it
             self._hand(next(iter(lane.guests)), line + b"\n")
 
-    def _hand(self, asker: Asker, reply: bytes) -> None:
-        asker.tell(reply)
+    def _hand(self, asker: Asker, replies: bytes) -> None:
+        asker.tell(replies)
         self._to_flush.add(asker)
 
-    def _let_go(self, asked: Asked) -> None:
-        self._bytes_written -= asked.length
-        asked.lane.written -= 1
-        asked.lane.let_go(asked.length)
-        asked.asker.let_go(asked.length)
+    def _let_go(self, asked: Asked, count: int) -> None:
+        """So many lines of a block were answered: its bytes go with the last."""
+        length = asked.length if count == asked.left else 0
+        asked.at += count
+        self._written -= count
+        self._bytes_written -= length
+        asked.lane.written -= count
+        asked.lane.let_go(count, length)
+        asked.asker.let_go(count, length)
         self._wait(asked.lane)
 
     def _flush(self) -> None:
@@ -293,7 +336,15 @@ class Desk:
             asker.flush()
 
 
-def count_fault(lane: Lane, reply: bytes) -> None:
-    """Counts a refusal by its code."""
-    if reply.startswith(b'{"error":'):
-        lane.refusals[reply[9:11].decode()] += 1
+def agreeing(keys: List[bytes], wanted: Sequence[bytes]) -> int:
+    """How many of them, from the first on, are those that are wanted."""
+    if keys == wanted:
+        return len(keys)
+    return next((place for place, (one, other) in enumerate(zip(keys, wanted)) if one != other), min(len(keys), len(wanted)))
+
+
+def count_faults(lane: Lane, replies: List[bytes]) -> None:
+    """Counts refusals by their codes."""
+    for reply in replies:
+        if reply.startswith(FAULT):
+            lane.refusals[reply[len(FAULT) :][:2].decode()] += 1

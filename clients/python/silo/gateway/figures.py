@@ -19,9 +19,10 @@ class Histogram:
         self.counts = [0] * (len(ENDS) + 1)
         self.total = 0.0
 
-    def note(self, seconds: float) -> None:
-        self.counts[bisect.bisect_left(ENDS, seconds)] += 1
-        self.total += seconds
+    def note(self, seconds: float, count: int = 1) -> None:
+        """So many took so long each."""
+        self.counts[bisect.bisect_left(ENDS, seconds)] += count
+        self.total += seconds * count
 
 
 def labelled(name: str, labels: Labels) -> str:

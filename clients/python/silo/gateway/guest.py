@@ -27,6 +27,15 @@ MOST_SECONDS_DEAF, MOST_SECONDS_IN_THE_WAY = 60.0, 2.0
 ROOM = memoryview(bytearray(MOST_AT_ONCE))
 
 
+class Read:
+    """Lines that came by one read, and which of them is the next."""
+
+    __slots__ = ("lines", "since", "at")
+
+    def __init__(self, lines: List[bytes], since: float) -> None:
+        self.lines, self.since, self.at = lines, since, 0
+
+
 class Guest(asyncio.BufferedProtocol):
     """Reads lines, keeps them until their turn comes, and writes what is told. It isn't read while it has too much under way."""
 
@@ -36,8 +45,8 @@ class Guest(asyncio.BufferedProtocol):
         self.lane = lane
         self._most = most
         self._on_lines, self._on_gone, self._on_last = on_lines, on_gone, on_last
-        # lines that wait, and when each was read; none for one that was too long
-        self.waiting: Deque[Tuple[Optional[bytes], float]] = collections.deque()
+        # lines that wait, by the reads that brought them, and when that was
+        self.waiting: Deque[Read] = collections.deque()
         # lines and bytes that were read and aren't answered yet
         self.held = self.held_bytes = 0
         self.is_in_turn = False
@@ -104,10 +113,22 @@ class Guest(asyncio.BufferedProtocol):
         """Whether lines of it may be given to the program: not while it leaves too many replies unread."""
         return bool(self.waiting) and not self._is_deaf
 
-    def tell(self, reply: bytes) -> None:
+    def next_lines(self, most: int) -> Tuple[List[bytes], float]:
+        """The next lines that wait, at most so many, of those that came by one read; and when that was."""
+        read = self.waiting[0]
+        return read.lines[read.at : read.at + most], read.since
+
+    def take_lines(self, count: int) -> None:
+        """The first of them wait no longer."""
+        read = self.waiting[0]
+        read.at += count
+        if read.at == len(read.lines):
+            self.waiting.popleft()
+
+    def tell(self, replies: bytes) -> None:
         """Keeps what it is told until `flush`."""
         if not self._is_lost:
-            self._told.append(reply)
+            self._told.append(replies)
 
     def flush(self) -> None:
         told = b"".join(self._told)
@@ -116,9 +137,9 @@ class Guest(asyncio.BufferedProtocol):
         self._told.clear()
         self._close_if_done()
 
-    def let_go(self, length: int) -> None:
-        """One of its lines was answered."""
-        self.held -= 1
+    def let_go(self, count: int, length: int) -> None:
+        """Some of its lines were answered."""
+        self.held -= count
         self.held_bytes -= length
         if not self._is_reading:
             self.look()
@@ -154,12 +175,11 @@ class Guest(asyncio.BufferedProtocol):
         if self._transport is not None:
             self._transport.abort()
 
-    def _hold(self, lines: List[Optional[bytes]]) -> None:
+    def _hold(self, lines: List[bytes]) -> None:
         if not lines:
             return
-        now = time.monotonic()
-        length = sum([len(line) for line in lines if line is not None])
-        self.waiting.extend([(line, now) for line in lines])
+        length = sum(map(len, lines))
+        self.waiting.append(Read(lines, time.monotonic()))
         self.held += len(lines)
         self.held_bytes += length
         self.lane.hold(len(lines), length)

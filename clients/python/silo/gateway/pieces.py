@@ -2,9 +2,12 @@
 
 from __future__ import annotations
 
-from typing import List, Optional
+from typing import List
 
 from silo.lines import MOST_BYTES
+
+# what stands for a line that is too long: no line is empty, since such a one is passed over
+TOO_LONG = b""
 
 
 class Pieces:
@@ -14,26 +17,29 @@ class Pieces:
         self._torn = bytearray()
         self._is_long = False
 
-    def feed(self, data: bytes) -> List[Optional[bytes]]:
-        """The lines that are whole now, without their LF; none in place of one that is too long."""
+    def feed(self, data: bytes) -> List[bytes]:
+        """The lines that are whole now, without their LF."""
         end = data.rfind(b"\n")
         if end < 0:
             self._keep(data)
             return []
-        first, *rest = data[:end].split(b"\n")
+        first, *lines = data[:end].split(b"\n")
+        if b"" in lines:
+            lines = [line for line in lines if line]
+        if end > MOST_BYTES:
+            lines = [line if len(line) <= MOST_BYTES else TOO_LONG for line in lines]
         self._keep(first)
-        lines = self.last()
-        lines += [line if len(line) <= MOST_BYTES else None for line in rest if line]
+        lines[:0] = self.last()
         self._keep(data[end + 1 :])
         return lines
 
-    def last(self) -> List[Optional[bytes]]:
+    def last(self) -> List[bytes]:
         """The line that was begun, if it has bytes, as if it were whole."""
         torn, is_long = bytes(self._torn), self._is_long
         self._torn.clear()
         self._is_long = False
         if is_long:
-            return [None]
+            return [TOO_LONG]
         return [torn] if torn else []
 
     def _keep(self, data: bytes) -> None:

@@ -1,49 +1,31 @@
-"""What a line of the program says: to whom it is, and under which number."""
+"""What lines of the program say: whose request each answers, or whose grain it is told to."""
 
 from __future__ import annotations
 
 import re
-from typing import NamedTuple
+from typing import List, Optional
 
-from silo.gateway.told import NOT_NOW, REFUSED
-from silo.lines import StrangeReply
-from silo.names import WORD
+from silo.gateway.asked import WORD_BYTES
+from silo.gateway.told import NOT_NOW
 
-WORD_BYTES = WORD.encode()
-# members ascend, so what tells whose it is stands before all that grains and callers chose
-ANSWER = re.compile(rb'\{(?:"error":[0-9]{1,3},)?"from":"(%b/%b)","id":([0-9]{1,19}),"(?:ok|text)":' % (WORD_BYTES, WORD_BYTES))
+# each line, and its key if it answers a request; members ascend, so what tells whose it is stands before all that grains and callers chose
+LINES = re.compile(rb'^(?:\{(?:"error":[0-9]{1,3},)?"from":"(%b/%b","id":[0-9]{1,19}),"(?:ok|text)":)?.*\n' % (WORD_BYTES, WORD_BYTES), re.MULTILINE)
 TOLD = re.compile(rb'\{(?:"error":[0-9]{1,3},)?"from":"%b/(%b):' % (WORD_BYTES, WORD_BYTES))
 UNNUMBERED = re.compile(rb'\{"error":[0-9]{1,3},"text":')
 NOT_NOW_LINE = NOT_NOW[:-1]
-REFUSED_LINE = REFUSED[:-1]
 
 
-class Reply(NamedTuple):
-    # the caller whose request is answered; none for a line that says no request
-    caller: bytes
-    number: bytes
-    # the tenant whose grain is told something
-    told: str
-    # where the number stands
-    start: int
-    end: int
-    is_not_now: bool = False
+def keys_of(lines: bytes) -> List[bytes]:
+    """The key of each of these whole lines; an empty one if it answers no request."""
+    return LINES.findall(lines)
 
 
-FENCED = Reply(b"", b"", "", 0, 0)
-NOT_POSSIBLE = Reply(b"", b"", "", 0, 0, True)
+def says_no_request(line: bytes) -> bool:
+    """Whether a line takes what was asked for no request: that is what it says to a fence."""
+    return UNNUMBERED.match(line) is not None
 
 
-def read_reply(line: bytes) -> Reply:
-    """What it says; StrangeReply if no silo says that."""
-    found = ANSWER.match(line)
-    if found is not None:
-        return Reply(found[1], found[2], "", found.start(2), found.end(2))
-    if line == REFUSED_LINE or UNNUMBERED.match(line):
-        return FENCED
-    if line == NOT_NOW_LINE:
-        return NOT_POSSIBLE
+def tenant_told(line: bytes) -> Optional[str]:
+    """Whose grain is told something by this line; none if it is no such line."""
     told = TOLD.match(line)
-    if told is None:
-        raise StrangeReply(f"{line[:80]!r} is no reply")
-    return Reply(b"", b"", told[1].decode(), 0, 0)
+    return None if told is None else told[1].decode()

@@ -6,7 +6,7 @@ import asyncio
 import contextlib
 import resource
 import signal
-from typing import List
+from typing import Sequence
 
 from silo.gateway.clock import Clock
 from silo.gateway.desk import OPERATOR, Desk
@@ -84,7 +84,7 @@ class Service:
         tell("info", f"the gateway is asked to end, by {signal.Signals(number).name}")
         self._is_asked_to_end.set()
 
-    async def _end(self, keeping: asyncio.Future[int], aside: List[asyncio.Future[None]]) -> int:
+    async def _end(self, keeping: asyncio.Future[int], aside: Sequence[asyncio.Future[None]]) -> int:
         """What was asked is answered, if that doesn't take too long; then all is closed."""
         loop = asyncio.get_running_loop()
         begun = loop.time()
