@@ -1,7 +1,4 @@
-"""Words of the house that a stranger reads twice, and what to say instead. `tools/check-docs` refuses them on the pages.
-
-A page that has some still is in NOT_YET_PLAIN. Take it off once it is clean: the check says so.
-"""
+"""Words of the house that a stranger reads twice, and what to say instead. `tools/check-docs` refuses them on the pages."""
 
 from __future__ import annotations
 
@@ -28,62 +25,6 @@ INSTEAD = [
     (r"of a processor", "of CPU time"),
 ]
 PATTERNS = [(re.compile(rf"(?<![\w-])(?:{said})(?![\w-])", re.IGNORECASE), instead) for said, instead in INSTEAD]
-
-# pages that are still to be cleaned
-NOT_YET_PLAIN = {
-    "CHANGELOG.md",
-    "clients/python/README.md",
-    "crates/activation_directory/README.md",
-    "crates/answer_model/README.md",
-    "crates/audit_model/README.md",
-    "crates/client_lanes/README.md",
-    "crates/command_parts/README.md",
-    "crates/data_command/README.md",
-    "crates/example_notes/README.md",
-    "crates/grain_kinds/README.md",
-    "crates/host_log/README.md",
-    "crates/host_writing/README.md",
-    "crates/idle_collector/README.md",
-    "crates/journal_text/CALLING.md",
-    "crates/journal_text/README.md",
-    "crates/lane_model/README.md",
-    "crates/lane_workers/README.md",
-    "crates/line_answer/CALLING.md",
-    "crates/line_answer/README.md",
-    "crates/line_commands/README.md",
-    "crates/line_parser/README.md",
-    "crates/line_protocol/README.md",
-    "crates/line_service/README.md",
-    "crates/log_answer/README.md",
-    "crates/log_host/README.md",
-    "crates/log_text/README.md",
-    "crates/request_codec/README.md",
-    "crates/serve_command/README.md",
-    "crates/silo_core/README.md",
-    "crates/silo_event/README.md",
-    "crates/silo_journal/README.md",
-    "crates/silo_laws/README.md",
-    "crates/silo_model/README.md",
-    "crates/silo_program/README.md",
-    "crates/silo_state/README.md",
-    "crates/silo_words/README.md",
-    "crates/tenant_accounts/README.md",
-    "crates/tenant_audit/CALLING.md",
-    "crates/tenant_audit/README.md",
-    "crates/test_parts/README.md",
-    "crates/test_program/README.md",
-    "crates/test_serving/README.md",
-    "crates/test_silo/README.md",
-    "crates/turn_arena/README.md",
-    "crates/turn_mailbox/README.md",
-    "crates/worker_host/README.md",
-    "docs/formats.md",
-    "docs/gateway.md",
-    "docs/library.md",
-    "docs/program.md",
-    "docs/promises.md",
-    "docs/proved.md",
-}
 
 
 def dialect_of(prose: str) -> list[str]:
