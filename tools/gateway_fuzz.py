@@ -114,7 +114,8 @@ class Talk:
 
     def rubbish(self) -> None:
         data = bytes(self.chance.randrange(256) for _ in range(self.chance.randrange(1, 300))).replace(b"\n", b"").replace(b"{", b"x")
-        self.say(data + b"\n", is_unnumbered)
+        # an empty line is answered by nothing
+        self.say((data or b"x") + b"\n", is_unnumbered)
 
     def long(self) -> None:
         length = self.chance.choice([65_536, 65_537, 65_538, 200_000, 1_500_000 if self.chance.randrange(20) == 0 else 70_000])

@@ -53,8 +53,8 @@ class Arena:
 
     def __init__(self, room: pathlib.Path, chance: random.Random) -> None:
         self._room, self._chance = room, chance
-        told = subprocess.run([beside.program, "answer", "--help"], capture_output=True, text=True, stdin=subprocess.DEVNULL, check=False).stdout
-        self.keeps = " --data " in told
+        tried = [beside.program, "answer", "--data", os.fspath(room / "tried"), "--", "red:1:1"]
+        self.keeps = subprocess.run(tried, capture_output=True, stdin=subprocess.DEVNULL, check=False).returncode == 0
         self.counts: Dict[str, int] = collections.Counter()
         self.hung: List[str] = []
         self._lives = 0

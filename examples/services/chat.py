@@ -62,7 +62,7 @@ class Chat:
     async def connect(self) -> aio.Silo:
         async with self._connecting:
             if self._silo is None:
-                self._silo = await aio.Silo.connect(self._gateway).start()
+                self._silo = await aio.Silo.connect(self._gateway)
                 self._web = self._silo.client("chat/web")
             return self._silo
 

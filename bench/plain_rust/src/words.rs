@@ -59,6 +59,10 @@ impl Words {
         let (mut age, mut ages, mut sends, mut workers, mut keeps) = (900_000, None, 1_000, 4, true);
         let mut names = Vec::new();
         while let Some(word) = words.next() {
+            if word == "--" {
+                names.extend(words);
+                break;
+            }
             if word == "--forget" {
                 keeps = false;
                 continue;

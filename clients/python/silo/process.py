@@ -18,6 +18,8 @@ Path = Union[str, "os.PathLike[str]"]
 F_SETPIPE_SZ = 1031
 # what the program reads at once if it has data
 BYTES_OF_WIDE_PIPE = 1_048_576
+# what asyncio reads at once, in place of 256 KiB, for which memory is mapped anew at each read
+BYTES_OF_READ = 65_536
 # how long a process that has closed its output may take to end: it writes the journal before
 MOST_SECONDS_TO_END = 60.0
 
@@ -55,6 +57,11 @@ def answer_words(
         "--data": None if data is None else os.fspath(data),
     }
     return [os.fspath(program), "answer", *option_words(given), *([] if sync else ["--no-sync"]), "--", *tenants]
+
+
+def read_less(transport: object) -> None:
+    """Has asyncio's transport read less at once. Where an asyncio has no such member, nothing changes."""
+    setattr(transport, "max_size", BYTES_OF_READ)
 
 
 class Process:

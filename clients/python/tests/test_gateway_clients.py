@@ -200,11 +200,11 @@ class Tasks(Loop, Shared):
         async with aio.Silo.connect(self.tcp, tenant="red", token=TOKEN) as silo:
             self.assertEqual((await silo.status(WEB))["clock"] > 0, True)
         with self.assertRaisesRegex(SiloEnded, "token is refused"):
-            await aio.Silo.connect(self.tcp, tenant="red", token="x").start()
+            await aio.Silo.connect(self.tcp, tenant="red", token="x")
 
     async def test_of_a_gateway_that_is_killed(self) -> None:
         gateway = self.gateway(program=self.stub("while read(): pass"))
-        silo = await aio.Silo.connect(gateway.address(), timeout=SECONDS).start()
+        silo = await aio.Silo.connect(gateway.address(), timeout=SECONDS)
         asked = [silo.ask(WEB, "status") for _ in range(20)]
         await asyncio.sleep(0.1)
         gateway.process.kill()

@@ -19,7 +19,7 @@ from unittest import mock
 
 from silo.gateway.desk import Desk
 from silo.gateway.keeper import Keeper
-from silo.gateway.lane import Lane
+from silo.gateway.lane import MOST_AT_FIRST, Lane
 
 from .beside import SECONDS, Case, settled
 from .gateways import Gateway, Gateways, Wire, call, echo, echoed, soon
@@ -275,7 +275,7 @@ class Floods(Gateways):
         for wire in [self.wire(gateway) for _ in range(4)]:
             wire.socket.settimeout(0.2)
             settled(lambda: wire.say(echo(1, "x") * 20_000))
-        soon(lambda: gateway.figure('silo_held{tenant="red"}') >= 120 and gateway.figure('silo_under_way{tenant="red"}') == 64)
+        soon(lambda: gateway.figure('silo_held{tenant="red"}') >= 120 and gateway.figure('silo_under_way{tenant="red"}') == MOST_AT_FIRST)
         # a read may bring so many lines more than the bound
         self.assertLessEqual(gateway.figure('silo_held{tenant="red"}'), 120 + 4 * (16_384 // len(echo(1, "x")) + 1))
         self.assertLess(resident(gateway.process.pid), MOST_RESIDENT)

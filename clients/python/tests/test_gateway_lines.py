@@ -14,8 +14,8 @@ from silo.gateway.asked import Block, Reader, asked_by
 from silo.gateway.desk import Desk
 from silo.gateway.figures import Histogram, Page
 from silo.gateway.guest import Guest
-from silo.gateway.lane import HALF_LIFE, Lane
-from silo.gateway.pieces import TOO_LONG, Pieces
+from silo.gateway.lane import HALF_LIFE, MOST_AT_FIRST, Costs, Lane
+from silo.gateway.pieces import Pieces
 from silo.gateway.replied import keys_of, says_no_request, tenant_told
 from silo.lines import StrangeReply
 
@@ -23,8 +23,7 @@ from .gateways import call, echo
 
 
 def read(line: bytes, tenant: str = "red") -> Block:
-    (block,) = Reader(tenant).read([line])
-    return block
+    return Reader(tenant).read_line(line)
 
 
 def given(line: bytes, tenant: str = "red") -> bytes:
@@ -35,7 +34,7 @@ def given(line: bytes, tenant: str = "red") -> bytes:
 class Asked(unittest.TestCase):
     def test_a_line_that_clients_write_stays_as_it_is(self) -> None:
         line = call(12, method="put", args={"name": "x", "value": [1, {"a": None}]})[:-1]
-        self.assertEqual((given(line), read(line).keys), (line + b"\n", [b'red/web","id":12']))
+        self.assertEqual((given(line), read(line).keys), (line + b"\n", (b'red/web","id":12,',)))
 
     def test_any_other_line_is_written_anew(self) -> None:
         for line in (
@@ -56,20 +55,24 @@ class Asked(unittest.TestCase):
 
     def test_lines_are_read_together_as_they_are_one_by_one(self) -> None:
         chance = random.Random(5)
-        odd = [b"x", TOO_LONG, call(1, "blue/web")[:-1], b' {"op":"status","from":"red/web","id":12}', b'{"op":"sweep"}', call(4, args={"id": 1})[:-1]]
+        odd = [b"x", b"", b"x" * 65_537, call(1, "blue/web")[:-1], b' {"op":"status","from":"red/web","id":12}', b'{"op":"sweep"}',
+               call(4, args={"id": 1})[:-1], call(4, args="\\u0041")[:-1]]  # fmt: skip
         for number in range(200):
             lines = [chance.choice([call(number)[:-1], echo(number, "r")[:-1]]) for _ in range(chance.randrange(1, 9))]
-            if number % 2:
-                lines.insert(chance.randrange(len(lines) + 1), chance.choice(odd))
-            together, alone = [*Reader("red").read(lines)], [read(line) for line in lines]
-            self.assertEqual(len(together), len(lines) if number % 2 else 1)
-            self.assertEqual(b"".join(block.given for block in together), b"".join(block.given for block in alone))
-            self.assertEqual([key for block in together for key in block.keys], [key for block in alone for key in block.keys])
-            self.assertEqual([block.instead for block in together if not block.keys], [block.instead for block in alone if not block.keys])
+            whole = b"".join(line + b"\n" for line in lines)
+            self.assertEqual([*Reader("red").keys_of(whole)], [key for line in lines for key in read(line).keys])
+            lines.insert(chance.randrange(len(lines) + 1), chance.choice(odd))
+            self.assertEqual([*Reader("red").keys_of(b"".join(line + b"\n" for line in lines))], [])
+
+    def test_a_block_in_two_parts(self) -> None:
+        lines = [call(number) for number in range(5)]
+        first, rest = Block(b"".join(lines), [read(line[:-1]).keys[0] for line in lines]).parted(2)
+        self.assertEqual((first.given, rest.given), (b"".join(lines[:2]), b"".join(lines[2:])))
+        self.assertEqual([[asked_by(key)[1] for key in block.keys] for block in (first, rest)], [[b"0", b"1"], [b"2", b"3", b"4"]])
 
     def test_a_line_within_a_line_is_none(self) -> None:
-        within = b"x" + call(1)[:-1]
-        self.assertEqual([block.given for block in Reader("red").read([call(1)[:-1], within])], [call(1), b"fence\n"])
+        self.assertEqual([*Reader("red").keys_of(call(1) + b"x" + call(1))], [])
+        self.assertEqual(given(b"x" + call(1)[:-1]), b"fence\n")
 
     def test_nothing_is_given_of_lines_that_others_answer(self) -> None:
         steps = (b'{"op":"tick","now":1}', b'{"op":"sweep"}', b'{"op":"activate","grain":"counter/red:a"}')
@@ -99,20 +102,20 @@ class Split(unittest.TestCase):
     def test_pieces_of_any_length(self) -> None:
         chance = random.Random(3)
         lines = [b"x" * chance.choice([0, 1, 5, 70, 65_536, 65_537, 140_000]) for _ in range(40)] + [b"last"]
-        data, pieces, found = b"\n".join(lines), Pieces(), []
+        data, pieces, found = b"\n".join(lines), Pieces(), b""
         while data:
             length = chance.choice([1, 3, 100, 16_384])
             found += pieces.feed(data[:length])
             data = data[length:]
-        self.assertEqual(found + pieces.last(), [line if len(line) <= 65_536 else TOO_LONG for line in lines if line])
-        self.assertEqual(pieces.last(), [])
+        self.assertEqual((found + pieces.last()).split(b"\n"), [line[:65_537] for line in lines] + [b""])
+        self.assertEqual(pieces.last(), b"")
 
     def test_no_more_than_a_line_is_kept(self) -> None:
         pieces = Pieces()
-        for _ in range(100):
-            self.assertEqual(pieces.feed(b"x" * 16_384), [])
-        self.assertLessEqual(len(pieces._torn), 65_536)
-        self.assertEqual(pieces.feed(b"\nnext\n"), [TOO_LONG, b"next"])
+        for data in [b"x" * 16_384] * 100 + [b"\n" + b"y" * 100_000]:
+            pieces.feed(data)
+            self.assertLessEqual(len(pieces._torn), 65_537)
+        self.assertEqual(pieces.feed(b"\nnext\n"), b"y" * 65_537 + b"\nnext\n")
 
 
 class Kept(Guest):
@@ -132,7 +135,8 @@ def reply_to(line: bytes) -> bytes:
         said = json.loads(line)
     except ValueError:
         return b'{"error":10,"text":"line is not a request"}\n'
-    return b'{"error":22,"from":"%b","id":%d,"text":"x"}\n' % (said["from"].encode(), said["id"])
+    form = b'{"from":"%b","id":%d,"ok":{"from":"red/web","id":1}}\n' if said["method"] == "add" else b'{"error":22,"from":"%b","id":%d,"text":"x"}\n'
+    return form % (said["from"].encode(), said["id"])
 
 
 class Turns(unittest.TestCase):
@@ -151,8 +155,14 @@ class Turns(unittest.TestCase):
         self.worked = 0.0
         self.desk.open(lambda data: self.written.extend(data.splitlines()), lambda: self.worked)
 
+    def allow(self, most: int, *lanes: Lane) -> None:
+        """The program may be given so many lines of these, until one is answered."""
+        for lane in lanes:
+            lane.most_written = most
+
     def test_tenants_and_connections_take_turns(self) -> None:
         red = [Kept(self.desk, self.lanes["red"]) for _ in range(2)]
+        self.allow(64, self.lanes["red"])
         self.desk.lose()
         for guest in red:
             guest.take(b"".join(echo(number, "r") for number in range(100)))
@@ -163,28 +173,50 @@ class Turns(unittest.TestCase):
         tenants = [json.loads(line)["from"].partition("/")[0] for line in self.written]
         self.assertEqual(tenants, ["red"] * 32 + ["blue"] * 2 + ["red"] * 32)
         # no tenant has more than so many under way, and its connections have as many each
-        self.assertEqual({len(guest.next_lines(100)[0]) for guest in red}, {68})
+        self.assertEqual([guest.next_block(100)[0].given.count(b"\n") for guest in red], [68, 68])
 
     def test_who_takes_long_is_given_less_at_once(self) -> None:
-        guest = Kept(self.desk, self.lanes["red"])
+        lane, guest = self.lanes["red"], Kept(self.desk, self.lanes["red"])
         guest.take(b"".join(echo(number, "r") for number in range(1_000)))
-        self.assertEqual(self.lanes["red"].written, 64)
-        self.answer(64, 0.004)
-        self.assertEqual(self.lanes["red"].written, 1)
+        self.assertEqual(lane.written, MOST_AT_FIRST)
+        self.answer(1, 0.004)
+        self.assertEqual(lane.written, MOST_AT_FIRST)
+        self.answer(MOST_AT_FIRST + 5, 0.004)
+        self.assertEqual(lane.written, 1)
         # nor do lines that take little hide that, but time does
         self.answer(100, 0.0)
-        self.assertEqual(self.lanes["red"].written, 1)
-        for lives, most in ((7, 80), (20, 256)):
-            later = time.monotonic() + lives * HALF_LIFE
-            with mock.patch("silo.gateway.desk.time.monotonic", lambda: later):
+        self.assertEqual(lane.written, 1)
+        later = time.monotonic() + 2 * HALF_LIFE
+        with mock.patch("silo.gateway.desk.time.monotonic", lambda: later):
+            for _ in range(8):
                 self.answer(1, 0.0)
-                self.assertLessEqual(self.lanes["red"].written, most)
-        self.assertEqual(self.lanes["red"].written, 256)
-        self.assertEqual([said["id"] for said in guest.heard], [*range(166)])
+        self.assertEqual(lane.written, 256)
+        self.assertEqual([said["id"] for said in guest.heard], [*range(MOST_AT_FIRST + 114)])
+
+    def test_a_line_that_takes_long_now_and_then_counts_for_nothing(self) -> None:
+        lane = self.lanes["red"]
+        Kept(self.desk, lane).take(b"".join(echo(number, "r") for number in range(10_000)))
+        now = time.monotonic()
+        for _ in range(20):
+            now += 1.0
+            with mock.patch("silo.gateway.desk.time.monotonic", lambda: now):
+                self.answer(9, 0.0)
+                self.answer(1, 0.005)
+            self.assertEqual(lane.most_written, 256)
+        self.answer(3, 0.005)
+        self.assertEqual(lane.most_written, 1)
+
+    def test_the_room_for_lines_by_what_they_take(self) -> None:
+        now = time.monotonic()
+        for seconds, most in ((0.0, 256), (0.000_007, 256), (0.000_02, 64), (0.000_1, 16), (0.001, 2), (0.002, 1), (0.01, 1)):
+            costs = Costs()
+            for _ in range(10):
+                costs.note(1_000, seconds, now)
+            self.assertEqual(costs.most, most, seconds)
 
     def test_who_takes_little_isnt_taken_for_who_takes_long(self) -> None:
         for name in ("red", "blue"):
-            Kept(self.desk, self.lanes[name]).take(b"".join(echo(number, "x", f"{name}/web") for number in range(10_000)))
+            Kept(self.desk, self.lanes[name]).take(b"".join(echo(number, "x", f"{name}/web") for number in range(20_000)))
         now = time.monotonic()
         for turn in range(100):
             # the program answers one line by itself, and then all: four milliseconds for each of red's
@@ -205,7 +237,7 @@ class Turns(unittest.TestCase):
         for _ in range(100):
             self.desk.moved_at -= 0.01
             self.answer(1, 0.0)
-        self.assertGreaterEqual(self.lanes["red"].written, 64)
+        self.assertEqual(self.lanes["red"].written, 256)
 
     def answer(self, count: int, seconds: float) -> None:
         """The program answers so many of red's lines, and works so long on each."""
@@ -219,7 +251,7 @@ class Turns(unittest.TestCase):
             guest.take(b"".join(b" " + echo(number, "r") for number in range(10)))
             self.assertEqual((len(self.written), len(self.later)), (1, 1))
         self.later.pop()()
-        self.assertEqual((len(self.written), len(self.later)), (10, 0))
+        self.assertEqual((len(self.written), len(self.later)), (MOST_AT_FIRST, 0))
 
     def test_lines_of_several_go_together(self) -> None:
         guests, self.is_slow = [Kept(self.desk, self.lanes["red"]) for _ in range(3)], True
@@ -242,7 +274,8 @@ class Turns(unittest.TestCase):
 
     def test_no_reply_strays(self) -> None:
         for reply in (
-            b'{"from":"red/web","id":2,"ok":1}', b'{"from":"red/other","id":1,"ok":1}', b'{"from":"blue/web","id":1,"ok":1}', b'{"text":"not now"}',
+            b'{"from":"red/web","id":2,"ok":1}', b'{"from":"red/web","id":50,"ok":1}', b'{"from":"red/web","id":5}',
+            b'{"from":"red/other","id":1,"ok":1}', b'{"from":"blue/web","id":1,"ok":1}', b'{"text":"not now"}',
             b'{"id":1,"ok":1}', b"[]", b"", b'{"from":"counter/green:a","ok":1}', b'{"from":"red/web","ok":1}',
         ):  # fmt: skip
             guest = Kept(self.desk, self.lanes["red"])
@@ -258,15 +291,18 @@ class Turns(unittest.TestCase):
         chance = random.Random(13)
         for _ in range(200):
             self.setUp()
+            self.allow(64, *self.lanes.values())
             guests = [Kept(self.desk, self.lanes[name]) for name in ("red", "red", "blue")]
             wanted: List[List[Any]] = [[], [], []]
             for number in range(chance.randrange(1, 30)):
                 place = chance.randrange(3)
-                guests[place].take(echo(number, "x", f"{guests[place].lane.tenant}/web"))
-                wanted[place].append(number)
+                caller = f"{guests[place].lane.tenant}/web"
+                numbers = range(100 * number, 100 * number + chance.randrange(1, 5))
+                guests[place].take(b"".join(call(it, caller) if chance.randrange(8) else echo(it, "x", caller) for it in numbers))
+                wanted[place] += numbers
             # a line that the program takes for no request, and something that a grain is told
             guests[0].take(call(77)[:-2] + b"\n" + call(78))
-            replies = b"".join(reply_to(line) for line in self.written) + b'{"error":40,"from":"relay/red:r","text":"x"}\n'
+            replies = b"".join(map(reply_to, self.written)) + b'{"error":40,"from":"relay/red:r","text":"x"}\n'
             while replies:
                 length = chance.choice([1, 30, 200, 1_000])
                 self.desk.feed(replies[:length])
@@ -307,6 +343,7 @@ class Turns(unittest.TestCase):
         operator = Kept(self.desk, self.lanes[""])
         for name in range(20):
             self.desk.lanes[f"t{name}"] = Lane(f"t{name}", f"t{name}", 10_000, 10**9)
+            self.allow(64, self.desk.lanes[f"t{name}"])
             Kept(self.desk, self.desk.lanes[f"t{name}"]).take(b"".join(echo(number, "x", f"t{name}/w") for number in range(64)))
         operator.take(echo(1, "x"))
         self.assertLessEqual(len(self.written), desks.MOST_WRITTEN)
@@ -325,7 +362,7 @@ class Figures(unittest.TestCase):
     def test_replies_as_the_silo_writes_them(self) -> None:
         answer, told = b'{"error":40,"from":"red/web","id":12,"text":"\\"id\\":13"}', b'{"error":40,"from":"relay/red:\\"x","text":"y"}'
         fenced, not_now = b'{"error":10,"text":"line is not a request"}', b'{"text":"not now"}'
-        self.assertEqual(keys_of(b"\n".join([answer, told, fenced, not_now, b"", b""])), [b'red/web","id":12', b"", b"", b"", b""])
+        self.assertEqual(keys_of(b"\n".join([answer, told, fenced, not_now, b"", b""])), [b'red/web","id":12,', b"", b"", b"", b""])
         self.assertEqual([tenant_told(line) for line in (answer, told, fenced, not_now)], [None, "red", None, None])
         self.assertEqual([says_no_request(line) for line in (answer, told, fenced, not_now)], [False, False, True, False])
 

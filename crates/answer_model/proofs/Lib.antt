@@ -7,3 +7,4 @@ pub mod Closed
 pub mod Raised
 pub mod Idle
 pub mod Certain
+pub mod Untold

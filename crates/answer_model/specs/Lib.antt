@@ -2,3 +2,4 @@ pub mod Answering
 pub mod Apart
 pub mod Idle
 pub mod Certain
+pub mod Untold

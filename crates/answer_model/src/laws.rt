@@ -4,6 +4,7 @@
 ghost use Rattle.answer_model.specs.Apart.{TenantsApart};
 ghost use Rattle.answer_model.specs.Certain.{AnsweredCertainly};
 ghost use Rattle.answer_model.specs.Idle.{AnsweredAtOnce};
+ghost use Rattle.answer_model.specs.Untold.{AnswersAsEver};
 
 /// What a silo that answers each request at once shows to each tenant is what the tenant's own machine
 /// is after what the tenant and nobody asked alone.
@@ -23,4 +24,11 @@ pub fn answered_at_once()
 #[tactic(auto, using(crate::proofs::Certain::answered_certainly))]
 pub fn answered_certainly()
     ensures { AnsweredCertainly }
+{}
+
+/// A silo that dropped its replies answers as it would have answered with them: nothing that is done for what is asked
+/// depends on a reply that was made before.
+#[tactic(auto, using(crate::proofs::Untold::answers_as_ever))]
+pub fn answers_as_ever()
+    ensures { AnswersAsEver }
 {}

@@ -86,6 +86,7 @@ pub fn cause_of(fault: LineFault) -> Cause
 pub fn say_bytes<W: Write>(to: &mut Output<W>, bytes: &[u8]) -> bool
     ensures whole { result ≡ true → Appends (W.contents to.old.writer) (W.contents to.new.writer) bytes.now }
     ensures unfailed { result ≡ true → to.new.calls.failed ≡ to.old.calls.failed }
+    ensures out { result ≡ true → to.new.calls.held ≡ false }
     ensures part { result ≡ false → BreaksOff (W.contents to.old.writer) (W.contents to.new.writer) to.new.calls bytes.now }
 {
     let whole = to.write_whole(bytes);
@@ -96,6 +97,7 @@ pub fn say_bytes<W: Write>(to: &mut Output<W>, bytes: &[u8]) -> bool
 pub fn say<W: Write>(to: &mut Output<W>, text: &str) -> bool
     ensures whole { result ≡ true → Appends (W.contents to.old.writer) (W.contents to.new.writer) text.now }
     ensures unfailed { result ≡ true → to.new.calls.failed ≡ to.old.calls.failed }
+    ensures out { result ≡ true → to.new.calls.held ≡ false }
     ensures part { result ≡ false → BreaksOff (W.contents to.old.writer) (W.contents to.new.writer) to.new.calls text.now }
 {
     say_bytes(to, text.as_bytes())

@@ -1,8 +1,8 @@
 //! Keeping the journal of a silo in a file.
 
-ghost use Rattle.std.specs.Prelude.{◌≡◌, [], IfErr, IfOk, OnOk, option_map};
-ghost use Rattle.std.specs.FinMap.{entries};
+ghost use Rattle.std.specs.Prelude.{◌≡◌, IfErr, IfOk, OnOk, option_map};
 ghost use Rattle.journal_text.specs.Text.{journal_text};
+ghost use Rattle.silo_core.specs.Reopening.{OpensEmpty};
 ghost use Rattle.command_parts.specs.Files.{claims};
 ghost use Rattle.command_parts.specs.Journals.{HasNoDifference, ReadsAgain, silo_journal};
 ghost use Rattle.command_parts.specs.Kept.{IsKeepingCause, KeepsJournal, WritesAtMost};
@@ -22,7 +22,7 @@ fn text_of<S: GrainStorage, L: GrainLogic>(
     silo: &Silo<S, L>,
     kinds: u8,
 ) -> Result<Vec<u8>, AllocError>
-    requires { entries silo.now.setup.rows ≡ [] }
+    requires { OpensEmpty silo.now.setup }
     ensures text { IfOk result (λ text. text.items ≡ journal_text (silo_journal (version_of L.logic kinds) silo.now)) }
     ensures is_journal { OnOk result (ReadsAgain (version_of L.logic kinds) silo.now) }
     ensures no_difference { OnOk result (HasNoDifference (version_of L.logic kinds) silo.now) }
@@ -38,7 +38,7 @@ pub fn keep_journal<F: WholeFiles, S: GrainStorage, L: GrainLogic>(
     silo: &Silo<S, L>,
     kinds: u8,
 ) -> Result<(), Cause>
-    requires { entries silo.now.setup.rows ≡ [] }
+    requires { OpensEmpty silo.now.setup }
     ensures kept { OnOk result (KeepsJournal (version_of L.logic kinds) (claims F.may_hold F.may_fail F.may_leave files.old files.new)
         (option_map (λ path. path.now) journal.entry) silo.now) }
     ensures alone { WritesAtMost (version_of L.logic kinds) (claims F.may_hold F.may_fail F.may_leave files.old files.new)

@@ -1,6 +1,6 @@
 //! What a silo of the program starts from.
 
-ghost use Rattle.std.specs.Prelude.{◌≡◌, [], false, IfOk};
+ghost use Rattle.std.specs.Prelude.{◌≡◌, [], false, true, IfOk};
 ghost use Rattle.silo_model.specs.Opening.{opening};
 ghost use Rattle.command_parts.specs.Setups.{setup_of};
 
@@ -38,6 +38,7 @@ pub fn new_silo<L: GrainLogic + Drop>(
     ensures opened { IfOk result (λ s. s.history.whole ≡ opening s.history.setup) }
     ensures failures { IfOk result (λ s. s.history.failures ≡ record { at_opening = 0; now = 0 }) }
     ensures ready { IfOk result (λ s. s.stopped ≡ false) }
+    ensures keeps { IfOk result (λ s. s.keeps ≡ true) }
 {
     let seed = start.seed;
     AnsweringSilo::seeded(

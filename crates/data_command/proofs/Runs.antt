@@ -1,5 +1,5 @@
 -- What a run makes of a log that was started.
-use Rattle.std.proofs.Common.{◌≡◌, ◌∙◌, ℕ, List, [], Option, None, Some, inl, inr, refl, sym, subst}
+use Rattle.std.proofs.Common.{◌≡◌, ◌∙◌, ℕ, Bool, List, [], Option, None, Some, inl, inr, refl, sym, subst}
 use Rattle.std.specs.Prelude.{IfSome}
 use Rattle.silo_model.specs.Opening.{opening}
 use Rattle.silo_model.specs.Whole.{Whole}
@@ -12,13 +12,15 @@ use Rattle.log_text.specs.Reading.{left_in}
 use Rattle.log_text.specs.Sums.{own_sums}
 use Rattle.log_text.proofs.Stands.{read_stands}
 use Rattle.log_host.specs.Acts.{Act, Always, Held}
-use Rattle.log_host.specs.Lasting.{Lasts, LastsFrom}
+use Rattle.log_host.specs.Lasting.{Lasts, LastsFrom, lines_in}
 use Rattle.log_host.specs.Laws.{restarted}
 use Rattle.log_host.specs.declared.place.LogPlace.{LogPlace}
+use Rattle.answer_model.proofs.Reached.{IsReached}
 use Rattle.log_answer.specs.Answers.{silo_log}
-use Rattle.log_answer.specs.Runs.{AnswersLogged, GoesOn, KeepsLines, StopsLogged}
+use Rattle.log_answer.specs.Runs.{GoesOn, KeepsLines, LogsOn, StopsLogged}
 use Rattle.log_answer.specs.declared.running.LogFault.{LogFault}
 use Rattle.log_answer.specs.declared.running.LogFault.TheVariants as log_fault
+use Rattle.log_answer.proofs.Left.{led_reached, left_is_all, logged_on, stops_alike}
 use Rattle.command_parts.specs.Setups.{Start}
 use Rattle.command_parts.specs.declared.failure.Cause.{Cause}
 use Rattle.data_command.specs.Data.{AnswersData, CutsLog, DataFailsBy, DataLasts, HasBehind, HasInput, HasLines, LogView, MayCutLog, data_log, since}
@@ -26,7 +28,7 @@ use Rattle.data_command.specs.Words.{head_words}
 use Rattle.data_command.specs.inside.Starts.{IsStarted, running_cause}
 use Rattle.data_command.specs.declared.fault.DataFault.TheVariants as data_fault
 
-module _ (start : Start) (sends : ℕ) (old mid new : LogView) (place : LogPlace) (silo : History) (st : IsStarted start sends (since old mid) place silo) where
+module _ (keeps : Bool) (start : Start) (sends : ℕ) (old mid new : LogView) (place : LogPlace) (silo : History) (st : IsStarted keeps start sends (since old mid) place silo) where
   behind_there : old.acts ≡ Some [] → HasBehind (head_words start sends) st.starts.number old.begun st.starts.bytes
   behind_there e = subst (λ (o : Option (List ℕ)). HasBehind (head_words start sends) st.starts.number o st.starts.bytes) (st.was e) st.starts.behind
 
@@ -63,14 +65,31 @@ module _ (start : Start) (sends : ℕ) (old mid new : LogView) (place : LogPlace
         always = subst (λ (name : List ℕ). Always (Lasts (silo_log start.version.logic sends (opening start.setup) name first)) h l.more) st.named l.always;
       })
 
+  -- the history that would be is one to which steps lead from the opening
+  all_reached : IsReached start.version.logic start.setup st.all.whole
+  all_reached =
+      subst (IsReached start.version.logic start.setup) (sym st.starts.leads.whole)
+      (led_reached start.version.logic sends start.setup (opening start.setup) (lines_in (data_log start sends st.starts.number) st.starts.bytes) ([], refl))
+
+  -- what was answered, of the histories that would be
+  answers_by : (here : Bool) → here ≡ keeps → (then : History) (count : ℕ) (left before after from : Option (List ℕ))
+      → IfSome from (λ bytes. LogsOn here start.version.logic sends bytes count silo then left before after) → AnswersData start sends (since old new) from left before after
+  answers_by here is then count left before after None h = record { found = st.found; was = st.was; silo = st.all; starts = st.starts; new = st.all; answered = tt }
+  answers_by here is then count left before after (Some input) h =
+      let on = logged_on start.version.logic sends keeps here start.setup st.all silo then all_reached is st.has input count left before after h in
+      record { found = st.found; was = st.was; silo = st.all; starts = st.starts; new = on.0; answered = (count, on.1) }
+
+  stops_by : (why : LogFault) (reading : Reading) (left before after from : Option (List ℕ))
+      → IfSome from (λ bytes. StopsLogged start.version.logic sends bytes reading left new.failed silo.whole before after why)
+      → IfSome from (λ bytes. StopsLogged start.version.logic sends bytes reading left new.failed st.all.whole before after why)
+  stops_by why reading left before after None h = tt
+  stops_by why reading left before after (Some input) h =
+      stops_alike start.version.logic sends silo.whole st.all.whole (left_is_all keeps st.all silo st.has) input reading left new.failed before after why h
+
   module _ (fresh : Reading) (none : IsFresh fresh) (from : Option (List ℕ)) where
     -- of an input of which nothing is read ahead
     from_start : (P : List ℕ → Type 0) → IfSome (left_of fresh from) P → IfSome from P
     from_start P h = subst (λ (o : Option (List ℕ)). IfSome o P) (left_of-fresh fresh from none) h
-
-    counted : (P : ℕ → List ℕ → Type 0) (count : ℕ) (o : Option (List ℕ)) → IfSome o (P count) → IfSome o (λ input. (n : ℕ) × P n input)
-    counted P count None h = tt
-    counted P count (Some input) h = (count, h)
 
     -- the log has all lines
     pub run_has : (synced : Option (List Act)) → synced ≡ mid.acts
@@ -93,15 +112,14 @@ module _ (start : Start) (sends : ℕ) (old mid new : LogView) (place : LogPlace
 
     module _ (left before after : Option (List ℕ)) where
       -- all was answered
-      pub run_answers : (then : History) (count : ℕ) → IfSome (left_of fresh from) (λ bytes. AnswersLogged start.version.logic sends bytes count silo then left before after) → AnswersData start sends (since old new) from left before after
-      run_answers then count h = record {
-        found = st.found;
-        was = st.was;
-        silo = silo;
-        starts = st.starts;
-        new = then;
-        answered = counted (λ n input. AnswersLogged start.version.logic sends input n silo then left before after) count from (from_start _ h);
-      }
+      pub run_answers : (here : Bool) → here ≡ keeps → (then : History) (count : ℕ) → IfSome (left_of fresh from) (λ bytes. LogsOn here start.version.logic sends bytes count silo then left before after)
+          → AnswersData start sends (since old new) from left before after
+      run_answers here is then count h = answers_by here is then count left before after from (from_start _ h)
+
+      stops_here : (reading : Reading) (why : LogFault) → IfSome (left_of fresh from) (λ bytes. StopsLogged start.version.logic sends bytes reading left new.failed silo.whole before after why)
+          → IfSome from (λ bytes. StopsLogged start.version.logic sends bytes reading left new.failed st.all.whole before after why)
+      stops_here reading why k =
+          stops_by why reading left before after from (from_start (λ bytes. StopsLogged start.version.logic sends bytes reading left new.failed silo.whole before after why) k)
 
       -- or not
       pub run_fails : (reading : Reading) (why : LogFault) (told : Cause) → told ≡ running_cause why → IfSome (left_of fresh from) (λ bytes. StopsLogged start.version.logic sends bytes reading left new.failed silo.whole before after why)
@@ -110,7 +128,7 @@ module _ (start : Start) (sends : ℕ) (old mid new : LogView) (place : LogPlace
         where
           by : (why : LogFault) → IfSome (left_of fresh from) (λ bytes. StopsLogged start.version.logic sends bytes reading left new.failed silo.whole before after why)
               → DataFailsBy start sends (since old new) (data_fault.Failed (running_cause why)) from left reading before after
-          by log_fault.Read k = inr (record { found = st.found; was = st.was; silo = silo; starts = st.starts; stopped = from_start _ k })
-          by log_fault.Write k = inr (record { found = st.found; was = st.was; silo = silo; starts = st.starts; stopped = from_start _ k })
-          by log_fault.Memory k = inr (record { found = st.found; was = st.was; silo = silo; starts = st.starts; stopped = from_start _ k })
-          by log_fault.TooMuch k = inr (record { found = st.found; was = st.was; silo = silo; starts = st.starts; stopped = from_start _ k })
+          by log_fault.Read k = inr (record { found = st.found; was = st.was; silo = st.all; starts = st.starts; stopped = stops_here reading log_fault.Read k })
+          by log_fault.Write k = inr (record { found = st.found; was = st.was; silo = st.all; starts = st.starts; stopped = stops_here reading log_fault.Write k })
+          by log_fault.Memory k = inr (record { found = st.found; was = st.was; silo = st.all; starts = st.starts; stopped = stops_here reading log_fault.Memory k })
+          by log_fault.TooMuch k = inr (record { found = st.found; was = st.was; silo = st.all; starts = st.starts; stopped = stops_here reading log_fault.TooMuch k })

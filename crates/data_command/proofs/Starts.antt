@@ -5,6 +5,7 @@ use Rattle.std.proofs.lemmas.List.{length-append}
 use Rattle.std.proofs.lemmas.Option.{same_Some}
 use Rattle.grain_logic.specs.Logic.{Logic}
 use Rattle.silo_model.specs.Opening.{opening}
+use Rattle.silo_model.specs.Segments.{untold}
 use Rattle.silo_model.specs.Whole.{Whole, shown_to}
 use Rattle.answer_model.specs.Answering.{all_answered, machine_stepper}
 use Rattle.answer_model.specs.Apart.{asked_by}
@@ -29,11 +30,12 @@ use Rattle.log_host.proofs.Moments.{settled_lasts}
 use Rattle.log_host.proofs.Starts.{starts_settled}
 use Rattle.log_answer.specs.Answers.{IsLed, heard_of, led, silo_log}
 use Rattle.log_answer.specs.Runs.{GoesOn}
-use Rattle.log_answer.specs.Starts.{AnswersAgain, IsRefused, StopsAgain, TellsOtherwise, kept_length}
+use Rattle.log_answer.specs.Starts.{AgainOn, IsRefused, StopsAgain, TellsOtherwise, kept_length}
 use Rattle.log_answer.specs.declared.starting.Again.{Again}
 use Rattle.log_answer.specs.declared.starting.AgainFault.{AgainFault}
 use Rattle.log_answer.specs.declared.starting.AgainFault.TheVariants as again_why
 use Rattle.log_answer.proofs.Led.{silos_grow}
+use Rattle.log_answer.proofs.Left.{left_self}
 use Rattle.log_answer.proofs.Lives.{starts_go_on}
 use Rattle.command_parts.specs.Kept.{opened}
 use Rattle.command_parts.specs.Setups.{Start}
@@ -184,25 +186,28 @@ module _ (start : Start) (sends : ℕ) where
         λ i. length (there i) + sized i
 
     -- the silo answered its lines again
-    pub started_again : (new : LogView) (silo then : History) (again : Again) (place : LogPlace) → silo.setup ≡ start.setup → silo.whole ≡ opening start.setup → place ≡ place_of (head_words start sends) number
-        → AnswersAgain start.version.logic sends place bytes silo then again → (old.acts ≡ Some [] → new.acts ≡ Some [])
-        → (old.acts ≡ Some [] → new.begun ≡ Some (head_text (head_words start sends) number ++ (restarted (data_log start sends number) bytes).file)) → IsStarted start sends (since old new) again.place then
-    started_again new silo then again place same there is done fresh kept =
-        let d = subst (λ (p : LogPlace). AnswersAgain start.version.logic sends p bytes silo then again) is done in
+    pub started_again : (keeps : Bool) (new : LogView) (silo then : History) (again : Again) (place : LogPlace) → silo.setup ≡ start.setup → silo.whole ≡ opening start.setup → place ≡ place_of (head_words start sends) number
+        → AgainOn keeps start.version.logic sends place bytes silo then again → (old.acts ≡ Some [] → new.acts ≡ Some [])
+        → (old.acts ≡ Some [] → new.begun ≡ Some (head_text (head_words start sends) number ++ (restarted (data_log start sends number) bytes).file)) → IsStarted keeps start sends (since old new) again.place then
+    started_again keeps new silo then again place same there is done fresh kept =
+        let on = subst (λ (p : LogPlace). AgainOn keeps start.version.logic sends p bytes silo then again) is done in
+        let d = on.answers in
         record {
           found = Some (head_text (head_words start sends) number ++ bytes);
           was = λ e. (finds e).1;
+          all = on.all;
+          has = on.left;
           starts = record {
             number = number;
             bytes = bytes;
             numbered = numbered;
             behind = refl;
-            leads = led_from start.version.logic sends silo (opened start.setup) then _ same there (subst (λ (bs : List Batch). IsLed start.version.logic sends silo (lines_of bs) then) d.read d.leads);
+            leads = led_from start.version.logic sends silo (opened start.setup) on.all _ same there (subst (λ (bs : List Batch). IsLed start.version.logic sends silo (lines_of bs) on.all) d.read d.leads);
           };
           named = d.name;
           goes_on = subst (λ (w : Whole). GoesOn start.version.logic sends w (first_sum (head_words start sends) number) again.place
               (restarted (silo_log start.version.logic sends w (name_of number) (first_sum (head_words start sends) number)) bytes) then.whole) there
-              (starts_go_on start.version.logic sends (place_of (head_words start sends) number) bytes silo then again (plain_name number numbered) d);
+              (starts_go_on keeps start.version.logic sends (place_of (head_words start sends) number) bytes silo then again (plain_name number numbered) on);
           fresh = fresh;
           kept = kept;
         }
@@ -243,11 +248,13 @@ module _ (start : Start) (sends : ℕ) where
 
   module _ (old mid new : LogView) (n : ℕ) (finds : Finds old.acts old.begun mid.acts mid.begun None) where
     -- the new one is settled
-    pub begun_started : (silo : History) (place : LogPlace) → silo.setup ≡ start.setup → silo.whole ≡ opening start.setup → AllIdle silo.whole.entries → place ≡ place_of (head_words start sends) (spelled n)
-        → Begins mid.acts new.acts new.begun (head_text (head_words start sends) (spelled n)) → IsStarted start sends (since old new) place silo
-    begun_started silo place same there idle is begins = subst (λ (p : LogPlace). IsStarted start sends (since old new) p silo) (sym is) (record {
+    pub begun_started : (keeps : Bool) (silo : History) (place : LogPlace) → silo.setup ≡ start.setup → silo.whole ≡ opening start.setup → AllIdle silo.whole.entries → place ≡ place_of (head_words start sends) (spelled n)
+        → Begins mid.acts new.acts new.begun (head_text (head_words start sends) (spelled n)) → IsStarted keeps start sends (since old new) place silo
+    begun_started keeps silo place same there idle is begins = subst (λ (p : LogPlace). IsStarted keeps start sends (since old new) p silo) (sym is) (record {
       found = None;
       was = λ e. (finds e).1;
+      all = silo;
+      has = left_self keeps silo;
       starts = record {
         number = spelled n;
         bytes = [];
@@ -259,7 +266,7 @@ module _ (start : Start) (sends : ℕ) where
       goes_on = record {
         plain = plain_name (spelled n) (spelled_number n);
         settled = starts_settled (data_log start sends (spelled n)) [] (plain_name (spelled n) (spelled_number n));
-        leads = there;
+        leads = ap untold there;
       };
       fresh = λ e. (begins (finds e).0.0).0;
       kept = λ e. (begins (finds e).0.0).1 ∙ ap (λ (bs : List ℕ). Some bs) (sym (append-nil (head_text (head_words start sends) (spelled n))));

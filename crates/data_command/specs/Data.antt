@@ -144,7 +144,8 @@ module _ (start : Start) (sends : ℕ) where
     -- ---- what is answered
 
     -- All of the input was read, each of its lines was answered by a silo that is where the lines lead that were found, and nothing failed.
-    -- What was written is their text and nothing else. Of an input that isn't known nothing is said.
+    -- What was written is their text and nothing else. Of an input that isn't known nothing is said. The silo drops its history: these
+    -- histories are those that it would have, had it kept all.
     pub record AnswersData (from left before after : Option (List ℕ)) : Type 0 where
       pub found : Option (List ℕ)
       pub was : IsFound log found

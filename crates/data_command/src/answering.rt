@@ -1,9 +1,9 @@
 //! Every line of an input, answered by a silo that goes on where its log ends.
 
-ghost use Rattle.std.specs.Prelude.{◌≡◌, [], false, true, IfErr, OnErr, OnOk};
+ghost use Rattle.std.specs.Prelude.{◌≡◌, [], false, true, IfErr, IfOk, OnErr, OnOk};
 ghost use Rattle.silo_model.specs.Opening.{opening};
 ghost use Rattle.line_protocol.specs.Reading.{IsFresh};
-ghost use Rattle.command_parts.specs.Setups.{started, starting, version_of};
+ghost use Rattle.command_parts.specs.Setups.{setup_of, started, starting, version_of};
 ghost use Rattle.data_command.specs.Data.{AnswersData, CutsLog, DataFailsBy, DataLasts, HasInput, MayCutLog, log_claims};
 ghost use Rattle.data_command.specs.Words.{head_words};
 ghost use Rattle.data_command.specs.inside.Starts.{running_cause};
@@ -12,14 +12,14 @@ use crate::fault::DataFault;
 use crate::head::head_words;
 use crate::opening::DataOpening;
 use crate::starting::{LogTask, start_log};
-use command_parts::{Cause, DataFiles, new_silo};
+use command_parts::{Cause, DataFiles, Start, new_silo};
 use grain_logic::GrainLogic;
 use grain_storage::MemoryStorage;
 use line_answer::AnsweringSilo;
 use line_protocol::{Input, LineReader, Output};
 use log_answer::{LogFault, answer_logged};
 use silo_words::Data;
-use std::alloc::Global;
+use std::alloc::{AllocError, Global};
 use std::io::{Read, Write};
 use std::mem;
 
@@ -36,6 +36,21 @@ fn running_cause(fault: LogFault) -> Cause
         LogFault::Memory => Cause::Memory,
         LogFault::TooMuch => Cause::TooMuch,
     }
+}
+
+/// A silo over no rows that answers lines, and needn't keep its history.
+fn letting_silo<L: GrainLogic + Drop>(
+    alloc: Global,
+    start: Start<L>,
+) -> Result<AnsweringSilo<MemoryStorage, L>, AllocError>
+    ensures setup { IfOk result (λ s. s.history.setup ≡ setup_of start.tenants start.age start.ages) }
+    ensures opened { IfOk result (λ s. s.history.whole ≡ opening s.history.setup) }
+    ensures ready { IfOk result (λ s. s.stopped ≡ false) }
+    ensures lets_go { IfOk result (λ s. s.keeps ≡ false) }
+{
+    let mut silo = new_silo(alloc, start)?;
+    silo.drop_history();
+    Ok(silo)
 }
 
 /// Starts the silo's log, and answers each line of the input, which is in the log before anything is told for it.
@@ -59,6 +74,7 @@ fn answer_on<L: GrainLogic, F: DataFiles, R: Read, W: Write>(
         (started (version_of L.logic task.now.kinds) silo.old.history.setup) task.now.sends
         (log_claims F.begun F.acts F.failed files.old files.new) (R.remaining input.old.reader)) }
     ensures output { OnOk result (output.new.calls.failed ≡ output.old.calls.failed) }
+    ensures out { OnOk result (output.old.calls.held ≡ false → output.new.calls.held ≡ false) }
     ensures fault { IfErr result (λ why. DataFailsBy (started (version_of L.logic task.now.kinds) silo.old.history.setup) task.now.sends
         (log_claims F.begun F.acts F.failed files.old files.new) why
         (R.remaining input.old.reader) (R.remaining input.new.reader) input.new.lines
@@ -93,7 +109,8 @@ fn answer_on<L: GrainLogic, F: DataFiles, R: Read, W: Write>(
 
 /// Answers each line of the input with at most so many deliveries behind it, by a silo that goes on where the log of the folder ends.
 /// The folder and its log are made if they aren't there. Each line is in the log, and on the disk unless no sync is asked for, before
-/// anything is told for it; what one read brought, of at most 1,048,576 bytes, is told together.
+/// anything is told for it; what one read brought, of at most 1,048,576 bytes, is told together. The silo drops its history from time to
+/// time, while it answers the log's lines again and behind them.
 ///
 /// # Errors
 ///
@@ -120,6 +137,7 @@ pub fn answer_data<L: GrainLogic + Drop, F: DataFiles, R: Read, W: Write>(
         (starting (version_of L.logic opening.start.kinds) opening.start.tenants opening.start.age opening.start.ages) opening.sends
         (log_claims F.begun F.acts F.failed files.old files.new) (R.remaining input.old.reader)) }
     ensures unfailed { OnOk result (output.new.calls.failed ≡ output.old.calls.failed) }
+    ensures out { OnOk result (output.old.calls.held ≡ false → output.new.calls.held ≡ false) }
     ensures fault { IfErr result (λ why. DataFailsBy
         (starting (version_of L.logic opening.start.kinds) opening.start.tenants opening.start.age opening.start.ages) opening.sends
         (log_claims F.begun F.acts F.failed files.old files.new) why
@@ -152,7 +170,7 @@ pub fn answer_data<L: GrainLogic + Drop, F: DataFiles, R: Read, W: Write>(
         sends: opening.sends,
         folder,
     };
-    let Ok(mut silo) = new_silo(alloc, opening.start) else {
+    let Ok(mut silo) = letting_silo(alloc, opening.start) else {
         return Err(DataFault::Failed(Cause::Memory));
     };
     let done = answer_on(alloc, &mut silo, &task, files, input, output);

@@ -121,9 +121,10 @@ fn resume_log<F: DataFiles, L: GrainLogic>(
     requires words { task.now.words.items ≡ head_words
         (started (version_of L.logic task.now.kinds) silo.old.history.setup) task.now.sends }
     ensures started { (old : LogView) → Finds old.acts old.begun (F.acts files.old) (F.begun files.old) (Some bytes.now)
-        → IfOk result (λ place. IsStarted (started (version_of L.logic task.now.kinds) silo.old.history.setup) task.now.sends
+        → IfOk result (λ place. IsStarted silo.old.keeps (started (version_of L.logic task.now.kinds) silo.old.history.setup) task.now.sends
         (since old (log_view F.begun F.acts F.failed files.new)) place silo.new.history) }
     ensures ready { OnOk result (silo.new.stopped ≡ false) }
+    ensures keeps { silo.new.keeps ≡ silo.old.keeps }
     ensures fault { (old : LogView) → Finds old.acts old.begun (F.acts files.old) (F.begun files.old) (Some bytes.now)
         → IfErr result (λ why. StartFailsBy (started (version_of L.logic task.now.kinds) silo.old.history.setup) task.now.sends
         (since old (log_view F.begun F.acts F.failed files.new)) why) }
@@ -165,9 +166,11 @@ pub(crate) fn start_log<F: DataFiles, L: GrainLogic>(
     requires opened { silo.old.history.whole ≡ opening silo.old.history.setup }
     requires words { task.now.words.items ≡ head_words
         (started (version_of L.logic task.now.kinds) silo.old.history.setup) task.now.sends }
-    ensures started { IfOk result (λ place. IsStarted (started (version_of L.logic task.now.kinds) silo.old.history.setup) task.now.sends
+    ensures started { IfOk result (λ place. IsStarted silo.old.keeps
+        (started (version_of L.logic task.now.kinds) silo.old.history.setup) task.now.sends
         (log_claims F.begun F.acts F.failed files.old files.new) place silo.new.history) }
     ensures ready { OnOk result (silo.new.stopped ≡ false) }
+    ensures keeps { silo.new.keeps ≡ silo.old.keeps }
     ensures fault { IfErr result (λ why. StartFailsBy (started (version_of L.logic task.now.kinds) silo.old.history.setup) task.now.sends
         (log_claims F.begun F.acts F.failed files.old files.new) why) }
     ensures cut { OnErr result (MayCutLog (started (version_of L.logic task.now.kinds) silo.old.history.setup) task.now.sends

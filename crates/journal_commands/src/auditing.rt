@@ -1,6 +1,6 @@
 //! Auditing the journal of a file.
 
-ghost use Rattle.std.specs.Prelude.{◌≡◌, ℕ, List, Option, IfOk, IfErr, OnOk};
+ghost use Rattle.std.specs.Prelude.{◌≡◌, false, ℕ, List, Option, IfOk, IfErr, OnOk};
 ghost use Rattle.std.specs.Io.KnownBytes.{Appends};
 ghost use Rattle.line_protocol.specs.declared.written.WriterCalls.{WriterCalls};
 ghost use Rattle.journal_text.specs.JournalAnswers.{IsJournalText};
@@ -106,6 +106,7 @@ fn write_reports<W: Write>(
     ensures written { IfOk result (λ how. IsEndOf how report.now
         × Appends (W.contents output.old.writer) (W.contents output.new.writer) (reports_text report.now)) }
     ensures unfailed { OnOk result (output.new.calls.failed ≡ output.old.calls.failed) }
+    ensures out { OnOk result (output.new.calls.held ≡ false) }
     ensures fault { IfErr result (λ cause. IsWritingCause cause
         (W.contents output.old.writer) (W.contents output.new.writer) output.new.calls (reports_text report.now)) }
 {
@@ -143,6 +144,7 @@ pub fn audit_file<
     ensures audited { IfOk result (λ how. AuditsFile (F.may_hold files.now path.now) how
         (W.contents output.old.writer) (W.contents output.new.writer)) }
     ensures unfailed { OnOk result (output.new.calls.failed ≡ output.old.calls.failed) }
+    ensures out { OnOk result (output.new.calls.held ≡ false) }
     ensures fault { IfErr result (λ fault. IsAuditFault (F.may_hold files.now path.now) (F.may_fail files.now path.now) fault
         (W.contents output.old.writer) (W.contents output.new.writer) output.new.calls) }
 {

@@ -1,6 +1,6 @@
 //! Migrating the journal of a file.
 
-ghost use Rattle.std.specs.Prelude.{◌≡◌, ℕ, List, Option, IfErr, IfOk, OnOk};
+ghost use Rattle.std.specs.Prelude.{◌≡◌, false, ℕ, List, Option, IfErr, IfOk, OnOk};
 ghost use Rattle.std.specs.Io.KnownBytes.{Appends};
 ghost use Rattle.line_protocol.specs.declared.written.WriterCalls.{WriterCalls};
 ghost use Rattle.journal_text.specs.JournalAnswers.{IsMigrated};
@@ -45,6 +45,7 @@ fn put<W: Write>(text: &[u8], output: &mut Output<W>) -> Result<End, ProgramFaul
     ensures whole { IfOk result (λ end. (end ≡ End.Well)
         × Appends (W.contents output.old.writer) (W.contents output.new.writer) text.now) }
     ensures unfailed { OnOk result (output.new.calls.failed ≡ output.old.calls.failed) }
+    ensures out { OnOk result (output.new.calls.held ≡ false) }
     ensures part { IfErr result (λ why. (why ≡ ProgramFault.Failed Cause.Write)
         × BreaksOff (W.contents output.old.writer) (W.contents output.new.writer) output.new.calls text.now) }
 {
@@ -71,6 +72,7 @@ pub fn migrate_file<F: WholeFiles, W: Write>(
     ensures migrated { IfOk result (λ end. (end ≡ End.Well) × MigratesFile (F.may_hold files.now path.now)
         (W.contents output.old.writer) (W.contents output.new.writer)) }
     ensures unfailed { OnOk result (output.new.calls.failed ≡ output.old.calls.failed) }
+    ensures out { OnOk result (output.new.calls.held ≡ false) }
     ensures fault { IfErr result (λ fault. IsMigrationFault (F.may_hold files.now path.now) (F.may_fail files.now path.now) fault
         (W.contents output.old.writer) (W.contents output.new.writer) output.new.calls) }
 {

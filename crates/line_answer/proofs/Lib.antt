@@ -1,4 +1,5 @@
 pub mod Trying
+pub mod Dropped
 pub mod OwnTexts
 pub mod Asked
 pub mod LineRuns

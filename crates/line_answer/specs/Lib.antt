@@ -1,5 +1,6 @@
 pub mod Limits
 pub mod Trying
+pub mod Dropped
 pub mod Texts
 pub mod Runs
 pub mod Laws

@@ -17,14 +17,16 @@ use Rattle.line_protocol.specs.declared.fault.LineFault.TheVariants as fault
 use Rattle.answer_model.specs.Answering.{Luck, whole_stepper, machine_stepper, all_answered}
 use Rattle.answer_model.specs.Apart.{asked_by}
 use Rattle.answer_model.specs.Idle.{AllIdle}
+use Rattle.line_answer.specs.Dropped.{Leaves}
 use Rattle.line_answer.specs.Limits.{IsAnsweredOut}
 use Rattle.line_answer.specs.Texts.{Heard, asks_by, asks_of, all_steps, heard_to, line_text, line_texts, lines_text}
 use Rattle.line_answer.specs.Trying.{Tries}
 
--- a silo that answers at once: its history, and whether it stopped for want of memory
+-- a silo that answers at once: its history, whether it stopped for want of memory, and whether it keeps its history
 pub record Answering : Type 0 where
   pub history : History
   pub stopped : Bool
+  pub keeps : Bool
 
 -- With some luck this was done and written for one line, and all is idle again.
 abbrev pub AnswersLine : Logic → ℕ → History → Line → History → List ℕ → Type 0
@@ -108,3 +110,26 @@ KeepsSetup fault.Read old new = new.setup ≡ old.setup
 KeepsSetup fault.TooMuch old new = new.setup ≡ old.setup
 KeepsSetup fault.Write old new = new.setup ≡ old.setup
 KeepsSetup fault.Memory old new = Unit {0}
+
+-- ---- where the silo may have dropped its history
+
+-- Of this history the silo has what is left, unless memory was refused: then it isn't told what it holds.
+abbrev pub LeavesBy : LineFault → Bool → History → History → Type 0
+LeavesBy fault.Read keeps all left = Leaves keeps all left
+LeavesBy fault.TooMuch keeps all left = Leaves keeps all left
+LeavesBy fault.Write keeps all left = Leaves keeps all left
+LeavesBy fault.Memory keeps all left = Unit {0}
+
+module _ (keeps : Bool) (logic : Logic) (n : ℕ) (input : List ℕ) where
+  -- All was answered, and of the history to which that leads the silo has what is left.
+  pub record AnswersOn (count : ℕ) (old new : History) (left before after : Option (List ℕ)) : Type 0 where
+    pub all : History
+    pub leaves : Leaves keeps all new
+    pub answers : AnswersAll logic n input count old all left before after
+
+  -- It stopped by this fault, and so it is of the history up to there.
+  pub record StopsOn (reading : Reading) (left : Option (List ℕ)) (writing : WriterCalls) (old new : History)
+      (before after : Option (List ℕ)) (e : LineFault) : Type 0 where
+    pub all : History
+    pub leaves : LeavesBy e keeps all new
+    pub stops : StopsBy logic n input reading left writing old all before after e

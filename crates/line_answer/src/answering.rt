@@ -6,6 +6,7 @@ ghost use Rattle.silo_model.specs.Journal.{LeadsTo};
 ghost use Rattle.silo_model.specs.Opening.{new_setup, opening};
 ghost use Rattle.answer_model.specs.Answering.{is_asked};
 ghost use Rattle.answer_model.specs.Idle.{AllIdle, TellsAsker};
+ghost use Rattle.line_answer.specs.Dropped.{MayDrop};
 ghost use Rattle.line_answer.specs.Trying.{AnswersAsked};
 
 use crate::bringing::answer_step;
@@ -18,11 +19,26 @@ use silo_event::{Reply, Step};
 use std::alloc::{AllocError, Global};
 use std::marker::Model;
 
-/// A silo in which nothing waits and nothing is open, unless it stopped for want of memory.
+/// A line that was answered, beside its bytes and those of its text: what its steps take, about.
+const LINE_WEIGHT: u64 = 128;
+
+/// A grain that is active: what it takes in a list of what is kept, about.
+const GRAIN_WEIGHT: u64 = 256;
+
+/// A history of fewer bytes isn't dropped.
+const LEAST_HISTORY: u64 = 16_777_216;
+
+/// A silo in which nothing waits and nothing is open, unless it stopped for want of memory. It keeps its history, or drops it
+/// from time to time.
 #[derive(Drop)]
 pub struct AnsweringSilo<S: GrainStorage, L: GrainLogic> {
     silo: Silo<S, L>,
     stopped: bool,
+    keeps: bool,
+
+    // Bytes of history, about, and with how many of them it is dropped.
+    grown: u64,
+    due: u64,
 }
 
 impl<S: GrainStorage, L: GrainLogic> Model for AnsweringSilo<S, L> {
@@ -38,7 +54,7 @@ impl<S: GrainStorage, L: GrainLogic> Model for AnsweringSilo<S, L> {
 
     ghost coded = { Prim.hlevel (codes, by_grain_code, by_text_code, by_number_code, coded_tree, state.the_row.coded) };
 
-    ghost view = { λ a. record { history = a.silo; stopped = a.stopped } };
+    ghost view = { λ a. record { history = a.silo; stopped = a.stopped; keeps = a.keeps } };
 
     ghost invariant = { λ a. a.stopped ≡ false → AllIdle a.silo.whole.entries };
 }
@@ -55,6 +71,7 @@ impl<S: GrainStorage + Drop, L: GrainLogic + Drop> AnsweringSilo<S, L> {
         ensures failures { IfOk result (λ a. a.history.failures
             ≡ record { at_opening = S.failed setup.storage; now = S.failed setup.storage }) }
         ensures ready { IfOk result (λ a. a.stopped ≡ false) }
+        ensures keeps { IfOk result (λ a. a.keeps ≡ true) }
     {
         AnsweringSilo::seeded(alloc, setup, HashSeed::fixed())
     }
@@ -75,10 +92,14 @@ impl<S: GrainStorage + Drop, L: GrainLogic + Drop> AnsweringSilo<S, L> {
         ensures failures { IfOk result (λ a. a.history.failures
             ≡ record { at_opening = S.failed setup.storage; now = S.failed setup.storage }) }
         ensures ready { IfOk result (λ a. a.stopped ≡ false) }
+        ensures keeps { IfOk result (λ a. a.keeps ≡ true) }
     {
         Ok(AnsweringSilo {
             silo: Silo::seeded(alloc, setup, seed)?,
             stopped: false,
+            keeps: true,
+            grown: 0,
+            due: LEAST_HISTORY,
         })
     }
 }
@@ -89,6 +110,44 @@ impl<S: GrainStorage, L: GrainLogic> AnsweringSilo<S, L> {
         ensures { result ≡ self.now.stopped }
     {
         self.stopped
+    }
+
+    /// Whether it keeps its history. Else it drops it from time to time.
+    pub fn keeps_history(&self) -> bool
+        ensures { result ≡ self.now.keeps }
+    {
+        self.keeps
+    }
+
+    /// From now on its history is dropped from time to time: see [`AnsweringSilo::note`].
+    pub fn drop_history(&mut self)
+        ensures history { self.new.history ≡ self.old.history }
+        ensures stopped { self.new.stopped ≡ self.old.stopped }
+        ensures keeps { self.new.keeps ≡ false }
+    {
+        self.keeps = false;
+    }
+
+    /// Notes how many bytes were read and written for a line. A history that needn't be kept is dropped once it is as large as
+    /// what the silo holds, and 16 MB: the silo opens again where it is. If memory is refused for that, the history stays for
+    /// the time being.
+    pub fn note(&mut self, alloc: Global, bytes: usize)
+        ensures history { MayDrop self.old.keeps self.old.history self.new.history }
+        ensures stopped { self.new.stopped ≡ self.old.stopped }
+        ensures keeps { self.new.keeps ≡ self.old.keeps }
+    {
+        self.grown = self
+            .grown
+            .saturating_add(LINE_WEIGHT)
+            .saturating_add(bytes as u64);
+        if self.grown < self.due || self.keeps {
+            return;
+        }
+        self.grown = 0;
+        if self.silo.reopen(alloc).is_ok() {
+            let grains = self.silo.opening_kept().grains.len() as u64;
+            self.due = grains.saturating_mul(GRAIN_WEIGHT).max(LEAST_HISTORY);
+        }
     }
 
     /// The silo, to look at.
@@ -148,6 +207,7 @@ impl<S: GrainStorage, L: GrainLogic> AnsweringSilo<S, L> {
         ensures told { OnOk result (TellsAsker (asking_of step) self.old.history.whole.replies self.new.history.whole.replies) }
         ensures ready { OnOk result (self.new.stopped ≡ false) }
         ensures stopped { OnErr result (self.new.stopped ≡ true) }
+        ensures keeps { self.new.keeps ≡ self.old.keeps }
     {
         self.answer_in(alloc, &mut Bump::new(alloc), step, most)
     }
@@ -168,6 +228,7 @@ impl<S: GrainStorage, L: GrainLogic> AnsweringSilo<S, L> {
         ensures told { OnOk result (TellsAsker (asking_of step) self.old.history.whole.replies self.new.history.whole.replies) }
         ensures ready { OnOk result (self.new.stopped ≡ false) }
         ensures stopped { OnErr result (self.new.stopped ≡ true) }
+        ensures keeps { self.new.keeps ≡ self.old.keeps }
     {
         // For the proof: where the journal leads.
         let _ = self.silo.journal();

@@ -53,6 +53,7 @@ fn answer_said<S: GrainStorage, L: GrainLogic>(
     requires { silo.old.stopped ≡ false }
     ensures ok { OnOk result (AnswersLine L.logic most silo.old.history (line.Step step) silo.new.history (string_bytes text.new)) }
     ensures ready { OnOk result (silo.new.stopped ≡ false) }
+    ensures keeps { silo.new.keeps ≡ silo.old.keeps }
 {
     text.clear();
 
@@ -90,6 +91,7 @@ pub fn answer_line<S: GrainStorage, L: GrainLogic>(
     requires { silo.old.stopped ≡ false }
     ensures ok { OnOk result (AnswersLine L.logic most silo.old.history (meaning_of line.now) silo.new.history (string_bytes text.new)) }
     ensures ready { OnOk result (silo.new.stopped ≡ false) }
+    ensures keeps { silo.new.keeps ≡ silo.old.keeps }
 {
     // For the proof: what is asked nothing is as idle as it was.
     let _ = silo.journal();

@@ -1,11 +1,11 @@
 //! Every line of an input, answered before the next is read.
 
-ghost use Rattle.std.specs.Prelude.{◌≡◌, ◌≤◌, false, List, ℕ, IfOk, IfErr, IfSome, OnOk};
+ghost use Rattle.std.specs.Prelude.{◌≡◌, ◌≢◌, ◌≤◌, false, true, List, ℕ, IfOk, IfErr, IfSome, OnOk};
 ghost use Rattle.std.specs.Io.KnownBytes.{Appends};
 ghost use Rattle.line_parser.specs.Meaning.{meaning_of};
 ghost use Rattle.line_protocol.specs.Reading.{left_of};
 ghost use Rattle.line_answer.specs.Limits.{answered_limit};
-ghost use Rattle.line_answer.specs.Runs.{AnswersLine, AnswersAll, KeepsSetup, LineStopsBy, MayStop, StopsBy};
+ghost use Rattle.line_answer.specs.Runs.{AnswersLine, AnswersOn, KeepsSetup, LineStopsBy, MayStop, StopsOn};
 
 use crate::answering::AnsweringSilo;
 use crate::lines::answer_line;
@@ -35,6 +35,7 @@ fn write_answer<W: Write, S: GrainStorage, L: GrainLogic>(
     ensures ok { OnOk result ((written : List ℕ) × AnswersLine L.logic most silo.old.history (meaning_of line.now) silo.new.history written
         × Appends (W.contents output.old.writer) (W.contents output.new.writer) written) }
     ensures ready { OnOk result (silo.new.stopped ≡ false) }
+    ensures keeps { silo.new.keeps ≡ silo.old.keeps }
     ensures err { IfErr result (λ e. LineStopsBy L.logic most e (meaning_of line.now) output.new.calls silo.old.history silo.new.history
         (W.contents output.old.writer) (W.contents output.new.writer)) }
     ensures stopped { IfErr result (λ e. MayStop e silo.new.stopped) }
@@ -49,7 +50,8 @@ fn write_answer<W: Write, S: GrainStorage, L: GrainLogic>(
 /// Answers the number of lines, at most 1,073,741,824.
 ///
 /// All that one line answers is written in one go, and goes out before a read that may wait. What was read ahead comes
-/// first.
+/// first. A silo that needn't keep its history drops it between two lines, from time to time: it answers as if it had kept
+/// all.
 ///
 /// # Errors
 ///
@@ -65,17 +67,21 @@ pub fn answer_lines<R: Read, W: Write, S: GrainStorage, L: GrainLogic>(
 ) -> Result<u64, LineFault>
     requires { silo.old.stopped ≡ false }
     ensures ok { IfOk result (λ n. IfSome (left_of input.old.lines (R.remaining input.old.reader)) (λ bytes.
-        AnswersAll L.logic most bytes n silo.old.history silo.new.history (R.remaining input.new.reader)
+        AnswersOn silo.old.keeps L.logic most bytes n silo.old.history silo.new.history (R.remaining input.new.reader)
         (W.contents output.old.writer) (W.contents output.new.writer))) }
     ensures err { IfErr result (λ e. IfSome (left_of input.old.lines (R.remaining input.old.reader)) (λ bytes.
-        StopsBy L.logic most bytes input.new.lines (R.remaining input.new.reader) output.new.calls silo.old.history silo.new.history
-        (W.contents output.old.writer) (W.contents output.new.writer) e)) }
+        StopsOn silo.old.keeps L.logic most bytes input.new.lines (R.remaining input.new.reader) output.new.calls
+        silo.old.history silo.new.history (W.contents output.old.writer) (W.contents output.new.writer) e)) }
     ensures ready { OnOk result (silo.new.stopped ≡ false) }
     ensures stopped { IfErr result (λ e. MayStop e silo.new.stopped) }
-    ensures setup { OnOk result (silo.new.history.setup ≡ silo.old.history.setup) }
-    ensures kept { IfErr result (λ e. KeepsSetup e silo.old.history silo.new.history) }
+    ensures setup { OnOk result (silo.old.keeps ≡ true → silo.new.history.setup ≡ silo.old.history.setup) }
+    ensures kept { IfErr result (λ e. silo.old.keeps ≡ true → KeepsSetup e silo.old.history silo.new.history) }
     ensures bound { IfOk result (λ n. n ≤ answered_limit) }
     ensures unfailed { OnOk result (output.new.calls.failed ≡ output.old.calls.failed) }
+
+    // What was written goes out: all of it at the end, and before the read that failed or that would be one too many.
+    ensures out { OnOk result (output.new.calls.held ≡ false) }
+    ensures waits { IfErr result (λ e. e ≢ LineFault.Memory → e ≢ LineFault.Write → output.new.calls.held ≡ false) }
 {
     // For the proof: where the silo's journal leads.
     let _ = silo.journal();
@@ -96,6 +102,7 @@ pub fn answer_lines<R: Read, W: Write, S: GrainStorage, L: GrainLogic>(
             input.lines.line(),
             &mut text,
         )?;
+        silo.note(alloc, input.lines.line().len().saturating_add(text.len()));
     }
     output.flush()?;
     if input.lines.fill(&mut input.reader)? {

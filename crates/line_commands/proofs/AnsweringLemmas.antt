@@ -2,10 +2,12 @@
 use Rattle.idle_collector.specs.Ages.{Ages}
 use Rattle.std.proofs.KnownBytes.{Appends-kept, Keeps-refl, Keeps-trans}
 use Rattle.command_parts.specs.declared.failure.Cause.{Cause}
-use Rattle.std.proofs.Common.{Err, IfErr, List, None, Ok, Option, Result, Some, [], ap, append-nil, append_assoc, inl, inr, refl, subst}
+use Rattle.std.proofs.Common.{Bool, Err, IfErr, List, None, Ok, Option, Result, Some, [], true, false, ap, append-nil, append_assoc, inl, inr, refl, subst}
 use Rattle.std.proofs.Common.{sym, ℕ, ⊎_elim, ◌++◌, ◌∙◌, ◌∷◌, ◌≡◌, ◌≢◌, ◌⊎◌}
 use Rattle.command_parts.specs.Files.{FileClaims, claims}
 use Rattle.silo_core.specs.History.{History}
+use Rattle.silo_core.specs.Reopening.{OpensEmpty}
+use Rattle.silo_core.proofs.Opened.{opens_empty}
 use Rattle.line_protocol.specs.Reading.{IsFresh, Reading, left_of}
 use Rattle.command_parts.specs.Kept.{IsKeepingCause, KeepsJournal, KeepsSecond, MayFailAgain, MayFailAt, WritesAtMost, empty_journal}
 use Rattle.command_parts.specs.Kept.{opened}
@@ -17,18 +19,19 @@ use Rattle.tenant_gate.specs.Table.{Table}
 use Rattle.line_protocol.specs.declared.written.WriterCalls.{WriterCalls}
 use Rattle.line_commands.specs.Answering.{AnsweringFailsBy, AnswersFirst, AnswersInput, AnswersLanes, AnswersToEnd, AnswersUpTo, EndsBy}
 use Rattle.line_commands.specs.Answering.{WritesJournalsAtMost}
-use Rattle.std.specs.FinMap.{entries}
 use Rattle.journal_text.specs.Text.{journal_text}
 use Rattle.line_protocol.proofs.LinesOfBytes.{left_of-fresh}
 use Rattle.line_protocol.specs.Lines.{lines_of}
 use Rattle.command_parts.specs.Setups.{Start, setup_of}
+use Rattle.command_parts.specs.Status.{cause_of}
 use Rattle.grain_logic.specs.Logic.{Logic}
 use Rattle.line_parser.specs.Meaning.{meaning_of}
 use Rattle.line_protocol.specs.declared.fault.LineFault.TheVariants as line
-use Rattle.line_answer.specs.Runs.{AnswersAll, AnswersBefore, AnswersLine, AnswersLines, KeepsSetup, StopsBy, WritesOn}
+use Rattle.line_answer.specs.Dropped.{Leaves}
+use Rattle.line_answer.specs.Runs.{AnswersAll, AnswersBefore, AnswersLine, AnswersLines, AnswersOn, KeepsSetup, LeavesBy, StopsBy, StopsOn, WritesOn}
 use Rattle.line_answer.proofs.Asked.{Hears, hears_more, hears_own}
 use Rattle.command_parts.specs.Journals.{silo_journal}
-use Rattle.command_parts.proofs.KeptLemmas.{HasFirst, both_kept, entries-empty, may_fail_again}
+use Rattle.command_parts.proofs.KeptLemmas.{HasFirst, both_kept, may_fail_again}
 use Rattle.command_parts.specs.declared.failure.Cause.TheVariants as cause
 
 -- ---- the silo that answers
@@ -37,16 +40,16 @@ use Rattle.command_parts.specs.declared.failure.Cause.TheVariants as cause
 pub opens : (setup : Setup) (silo : History) → silo.setup ≡ setup → (silo.whole ≡ opening setup) × (silo.journal ≡ []) → silo.failures ≡ record { at_opening = 0; now = 0 } → silo ≡ opened setup
 opens setup silo s o f = λ i. record { setup = s i; whole = o.0 i; journal = o.1 i; failures = f i }
 
--- it has no rows at its opening
-pub no_rows : (setup : Setup) (tenants : Table) (age : ℕ) (ages : Ages) → setup ≡ setup_of tenants age ages → entries setup.rows ≡ []
-no_rows setup tenants age ages is = ap (λ (s : Setup). entries s.rows) is ∙ entries-empty
+-- it opens empty
+pub opens_so : (setup : Setup) (tenants : Table) (age : ℕ) (ages : Ages) → setup ≡ setup_of tenants age ages → OpensEmpty setup
+opens_so setup tenants age ages is = opens_empty setup tenants age ages is
 
--- and none later, unless memory was refused
-pub rows_kept : (why : LineFault) (old new : History) → entries old.setup.rows ≡ [] → KeepsSetup why old new → why ≢ line.Memory → entries new.setup.rows ≡ []
-rows_kept line.Read old new none kept other = ap (λ (s : Setup). entries s.rows) kept ∙ none
-rows_kept line.TooMuch old new none kept other = ap (λ (s : Setup). entries s.rows) kept ∙ none
-rows_kept line.Write old new none kept other = ap (λ (s : Setup). entries s.rows) kept ∙ none
-rows_kept line.Memory old new none kept other = absurd (other refl)
+-- and that stays so of a silo that keeps its history, unless memory was refused
+pub empty_kept : (why : LineFault) (old new : History) → OpensEmpty old.setup → KeepsSetup why old new → why ≢ line.Memory → OpensEmpty new.setup
+empty_kept line.Read old new empty kept other = subst OpensEmpty (sym kept) empty
+empty_kept line.TooMuch old new empty kept other = subst OpensEmpty (sym kept) empty
+empty_kept line.Write old new empty kept other = subst OpensEmpty (sym kept) empty
+empty_kept line.Memory old new empty kept other = absurd (other refl)
 
 -- ---- what was written goes out
 
@@ -66,26 +69,55 @@ module _ (logic : Logic) (n : ℕ) (input : List ℕ) (old new : History) (befor
   stops_kept line.Memory reading left writing h = (h.0, before_kept h.0 h.1, h.2)
   stops_kept line.Write reading left writing h = (h.0, h.1, h.2, on_kept h.2.rest h.0 h.1 h.3, h.4)
 
-module _ (logic : Logic) (sends : ℕ) (fresh : Reading) (from left : Option (List ℕ)) (old new : History) (before : Option (List ℕ)) (none : IsFresh fresh) where
+module _ (keeps : Bool) (logic : Logic) (sends : ℕ) (fresh : Reading) (from left : Option (List ℕ)) (old new : History) (before : Option (List ℕ)) (none : IsFresh fresh) where
   -- of an input of which nothing is read ahead
-  pub all_read : (count : ℕ) (after : Option (List ℕ)) → IfSome (left_of fresh from) (λ input. AnswersAll logic sends input count old new left before after)
-      → IfSome from (λ input. (count : ℕ) × AnswersAll logic sends input count old new left before after)
+  pub all_read : (count : ℕ) (after : Option (List ℕ)) → IfSome (left_of fresh from) (λ input. AnswersOn keeps logic sends input count old new left before after)
+      → IfSome from (λ input. (count : ℕ) × AnswersOn keeps logic sends input count old new left before after)
   all_read count after h =
-      go from (subst (λ (o : Option (List ℕ)). IfSome o (λ input. AnswersAll logic sends input count old new left before after)) (left_of-fresh fresh from none) h)
+      go from (subst (λ (o : Option (List ℕ)). IfSome o (λ input. AnswersOn keeps logic sends input count old new left before after)) (left_of-fresh fresh from none) h)
     where
-      go : (o : Option (List ℕ)) → IfSome o (λ input. AnswersAll logic sends input count old new left before after) → IfSome o (λ input. (count : ℕ) × AnswersAll logic sends input count old new left before after)
+      go : (o : Option (List ℕ)) → IfSome o (λ input. AnswersOn keeps logic sends input count old new left before after) → IfSome o (λ input. (count : ℕ) × AnswersOn keeps logic sends input count old new left before after)
       go None all = tt
       go (Some input) all = (count, all)
 
   pub stops_out : (why : LineFault) (reading : Reading) (writing : WriterCalls) (during after : Option (List ℕ)) → Keeps during after
-      → IfSome (left_of fresh from) (λ input. StopsBy logic sends input reading left writing old new before during why)
-      → IfSome from (λ input. StopsBy logic sends input reading left writing old new before after why)
+      → IfSome (left_of fresh from) (λ input. StopsOn keeps logic sends input reading left writing old new before during why)
+      → IfSome from (λ input. StopsOn keeps logic sends input reading left writing old new before after why)
   stops_out why reading writing during after kept h =
-      go from (subst (λ (o : Option (List ℕ)). IfSome o (λ input. StopsBy logic sends input reading left writing old new before during why)) (left_of-fresh fresh from none) h)
+      go from (subst (λ (o : Option (List ℕ)). IfSome o (λ input. StopsOn keeps logic sends input reading left writing old new before during why)) (left_of-fresh fresh from none) h)
     where
-      go : (o : Option (List ℕ)) → IfSome o (λ input. StopsBy logic sends input reading left writing old new before during why) → IfSome o (λ input. StopsBy logic sends input reading left writing old new before after why)
+      go : (o : Option (List ℕ)) → IfSome o (λ input. StopsOn keeps logic sends input reading left writing old new before during why) → IfSome o (λ input. StopsOn keeps logic sends input reading left writing old new before after why)
       go None stops = tt
-      go (Some input) stops = stops_kept logic sends input old new before during after kept why reading left writing stops
+      go (Some input) stops = record {
+        all = stops.all;
+        leaves = stops.leaves;
+        stops = stops_kept logic sends input old stops.all before during after kept why reading left writing stops.stops;
+      }
+
+-- ---- of a silo that keeps its history, all of it is there
+
+module _ (keeps : Bool) (is : keeps ≡ true) (logic : Logic) (sends : ℕ) (left : Option (List ℕ)) (old new : History) (before after : Option (List ℕ)) where
+  all_there : (all : History) → Leaves keeps all new → all ≡ new
+  all_there all leaves = sym (subst (λ b. Leaves b all new) is leaves)
+
+  pub answers_all : (from : Option (List ℕ)) → IfSome from (λ input. (count : ℕ) × AnswersOn keeps logic sends input count old new left before after)
+      → IfSome from (λ input. (count : ℕ) × AnswersAll logic sends input count old new left before after)
+  answers_all None h = tt
+  answers_all (Some input) h =
+      (h.0, subst (λ (s : History). AnswersAll logic sends input h.0 old s left before after) (all_there h.1.all h.1.leaves) h.1.answers)
+
+  module _ (reading : Reading) (writing : WriterCalls) where
+    stops_there : (why : LineFault) (input : List ℕ) (all : History) → LeavesBy why keeps all new → StopsBy logic sends input reading left writing old all before after why
+        → StopsBy logic sends input reading left writing old new before after why
+    stops_there line.Read input all leaves h = subst (λ (s : History). StopsBy logic sends input reading left writing old s before after line.Read) (all_there all leaves) h
+    stops_there line.TooMuch input all leaves h = subst (λ (s : History). StopsBy logic sends input reading left writing old s before after line.TooMuch) (all_there all leaves) h
+    stops_there line.Write input all leaves h = subst (λ (s : History). StopsBy logic sends input reading left writing old s before after line.Write) (all_there all leaves) h
+    stops_there line.Memory input all leaves h = h
+
+    pub stops_all : (why : LineFault) (from : Option (List ℕ)) → IfSome from (λ input. StopsOn keeps logic sends input reading left writing old new before after why)
+        → IfSome from (λ input. StopsBy logic sends input reading left writing old new before after why)
+    stops_all why None h = tt
+    stops_all why (Some input) h = stops_there why input h.all h.leaves h.stops
 
 -- ---- which silo the lines led to
 
@@ -270,3 +302,58 @@ module _ {F : Type 0} (may_hold : F → List ℕ → List ℕ → Type 0) (may_f
         stopped_by start sends both journal from left reading before after writing silo unfailed (KeepsJournal start.version (claims may_hold may_fail may_leave mid new) journal shown ⊎ MayFailAt (may_fail mid) journal) fault why answered
         (λ kept. ⊎_elim (λ b. inl (second_kept may_hold may_fail may_leave start sends old mid new first silo is shown shows journal a b))
         (λ fails. inr (second_fails may_hold may_fail may_leave start sends old mid new first silo is journal a fails)) kept) ends
+
+-- ---- a silo that keeps no journal, and drops its history
+
+module _ (start : Start) (sends : ℕ) (keeps : Bool) (lets : keeps ≡ false) (first new : History) (is : first ≡ opened start.setup) (unfailed : new.failures.now ≡ 0)
+    (left before after : Option (List ℕ)) (files : FileClaims) where
+  none_failed : (all : History) → Leaves keeps all new → all.failures.now ≡ 0
+  none_failed all leaves = (subst (λ b. Leaves b all new) lets leaves).failures ∙ unfailed
+
+  pub only_answered : (from : Option (List ℕ)) → IfSome from (λ input. (count : ℕ) × AnswersOn keeps start.version.logic sends input count first new left before after)
+      → AnswersLanes start sends files None from left before after
+  only_answered None h = record { silo = opened start.setup; answered = tt; unfailed = refl; kept = tt }
+  only_answered (Some input) h = record {
+    silo = h.1.all;
+    answered = (h.0, subst (λ (s : History). AnswersAll start.version.logic sends input h.0 s h.1.all left before after) is h.1.answers);
+    unfailed = none_failed h.1.all h.1.leaves;
+    kept = tt;
+  }
+
+  module _ (reading : Reading) (writing : WriterCalls) where
+    -- the history up to the fault
+    only_up_to : (why : LineFault) (from : Option (List ℕ)) → IfSome from (λ input. StopsOn keeps start.version.logic sends input reading left writing first new before after why)
+        → (silo : History) × AnswersUpTo start sends why silo from left reading before after writing × (silo.failures.now ≡ 0)
+    only_up_to why None h = (opened start.setup, tt, refl)
+    only_up_to line.Memory (Some input) h = (
+      opened start.setup,
+      subst (λ (s : History). StopsBy start.version.logic sends input reading left writing s (opened start.setup) before after line.Memory) is h.stops,
+      refl,
+    )
+    only_up_to line.Read (Some input) h =
+        (h.all, subst (λ (s : History). StopsBy start.version.logic sends input reading left writing s h.all before after line.Read) is h.stops, none_failed h.all h.leaves)
+    only_up_to line.TooMuch (Some input) h =
+        (h.all, subst (λ (s : History). StopsBy start.version.logic sends input reading left writing s h.all before after line.TooMuch) is h.stops, none_failed h.all h.leaves)
+    only_up_to line.Write (Some input) h =
+        (h.all, subst (λ (s : History). StopsBy start.version.logic sends input reading left writing s h.all before after line.Write) is h.stops, none_failed h.all h.leaves)
+
+    pub only_stopped : (why : LineFault) (from : Option (List ℕ)) → IfSome from (λ input. StopsOn keeps start.version.logic sends input reading left writing first new before after why)
+        → AnsweringFailsBy start sends files None (cause_of why) from left reading before after writing
+    only_stopped line.Read from h =
+        let p = only_up_to line.Read from h in
+        record { silo = p.0; answered = p.1; unfailed = p.2; kept = inl tt }
+    only_stopped line.TooMuch from h =
+        let p = only_up_to line.TooMuch from h in
+        record { silo = p.0; answered = p.1; unfailed = p.2; kept = inl tt }
+    only_stopped line.Write from h =
+        let p = only_up_to line.Write from h in
+        inr (inl (record { silo = p.0; answered = p.1; unfailed = p.2; kept = inl tt }))
+    only_stopped line.Memory from h =
+        let p = only_up_to line.Memory from h in
+        inr (record { ended = Some line.Memory; silo = p.0; answered = p.1; unfailed = p.2 })
+
+    pub only_fails : (why : LineFault) (by : Cause) (from : Option (List ℕ)) → by ≡ cause_of why
+        → IfSome from (λ input. StopsOn keeps start.version.logic sends input reading left writing first new before after why)
+        → AnsweringFailsBy start sends files None by from left reading before after writing
+    only_fails why by from same h =
+        subst (λ (c : Cause). AnsweringFailsBy start sends files None c from left reading before after writing) (sym same) (only_stopped why from h)

@@ -1,6 +1,6 @@
 //! Taking the steps of an input.
 
-ghost use Rattle.std.specs.Prelude.{◌≡◌, OnOk, IfOk, IfErr};
+ghost use Rattle.std.specs.Prelude.{◌≡◌, false, OnOk, IfOk, IfErr};
 ghost use Rattle.silo_model.specs.Opening.{opening};
 ghost use Rattle.line_protocol.specs.Reading.{IsFresh};
 ghost use Rattle.command_parts.specs.Setups.{setup_of, starting, version_of};
@@ -49,6 +49,7 @@ fn answer_lines<L: GrainLogic + Drop, R: Read, W: Write>(
         (R.remaining input.old.reader) (R.remaining input.new.reader)
         (W.contents output.old.writer) (W.contents output.new.writer)) }
     ensures unfailed { OnOk result (output.new.calls.failed ≡ output.old.calls.failed) }
+    ensures out { OnOk result (output.new.calls.held ≡ false) }
     ensures stopped { IfErr result (λ why. StopsFrom (starting (version_of L.logic start.kinds) start.tenants start.age start.ages) why
         (R.remaining input.old.reader) (R.remaining input.new.reader) input.new.lines
         (W.contents output.old.writer) (W.contents output.new.writer) output.new.calls) }
@@ -80,6 +81,7 @@ pub fn answer_steps<L: GrainLogic + Drop, R: Read, W: Write>(
         (R.remaining input.old.reader) (R.remaining input.new.reader)
         (W.contents output.old.writer) (W.contents output.new.writer)) }
     ensures unfailed { OnOk result (output.new.calls.failed ≡ output.old.calls.failed) }
+    ensures out { OnOk result (output.new.calls.held ≡ false) }
     ensures stopped { IfErr result (λ why. StopsFrom (starting (version_of L.logic start.kinds) start.tenants start.age start.ages) why
         (R.remaining input.old.reader) (R.remaining input.new.reader) input.new.lines
         (W.contents output.old.writer) (W.contents output.new.writer) output.new.calls) }

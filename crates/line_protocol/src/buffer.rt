@@ -143,6 +143,7 @@ impl Buffer {
         ensures some { IfSome result (λ l. ahead_in self.old ≡ slice_range self.new.bytes.items l.0 l.1 ++ 10 ∷ ahead_in self.new) }
         ensures one { IfSome result (λ l. HasNoBreak (slice_range self.new.bytes.items l.0 l.1)) }
         ensures none { result ≡ None → self.new ≡ self.old }
+        ensures calls { self.new.calls ≡ self.old.calls }
     {
         let from = self.start;
         let at = break_at(&self.bytes[from..self.end])?;

@@ -88,6 +88,7 @@ impl LineReader {
     pub fn take_whole(&mut self) -> bool
         ensures some { result ≡ true → (rest : Option (List ℕ)) → TakesCut (left_of self.old rest) (left_of self.new rest) self.new.line }
         ensures none { result ≡ false → self.new ≡ self.old }
+        ensures calls { self.new.calls ≡ self.old.calls }
     {
         let Some((from, to)) = self.buffer.take_whole() else {
             return false;
@@ -154,6 +155,11 @@ impl LineReader {
         ensures cause { IfErr result (λ e. HasCause e self.new.calls output.new.calls) }
         ensures failed { IfErr result (λ e. HasNothingAhead e self.new.ahead) }
         ensures unfailed { OnOk result (output.new.calls.failed ≡ output.old.calls.failed) }
+
+        // Where a read was made, however it ends, nothing is held back: the flush is before it, since it may fail.
+        ensures waits { self.new.calls.made ≢ self.old.calls.made → output.new.calls.held ≡ false }
+        ensures out { result ≡ Ok false → output.new.calls.held ≡ false }
+        ensures stopped { IfErr result (λ e. e ≢ LineFault.Write → output.new.calls.held ≡ false) }
     {
         if self.take_whole() {
             return Ok(true);

@@ -1,6 +1,6 @@
 //! Every line of an input, answered in order.
 
-ghost use Rattle.std.specs.Prelude.{◌≡◌, ◌≤◌, List, ℕ, IfOk, IfErr, IfSome, OnOk};
+ghost use Rattle.std.specs.Prelude.{◌≡◌, ◌≢◌, ◌≤◌, false, List, ℕ, IfOk, IfErr, IfSome, OnOk};
 ghost use Rattle.std.specs.Io.KnownBytes.{Appends};
 ghost use Rattle.line_protocol.specs.Limits.{lines_limit};
 ghost use Rattle.line_parser.specs.Meaning.{meaning_of};
@@ -66,6 +66,10 @@ pub fn run_lines<R: Read, W: Write, S: GrainStorage, L: GrainLogic>(
         (W.contents output.old.writer) (W.contents output.new.writer) e)) }
     ensures bound { IfOk result (λ n. n ≤ lines_limit) }
     ensures unfailed { OnOk result (output.new.calls.failed ≡ output.old.calls.failed) }
+
+    // What was written goes out: all of it at the end, and before the read that failed or that would be one too many.
+    ensures out { OnOk result (output.new.calls.held ≡ false) }
+    ensures waits { IfErr result (λ e. e ≢ LineFault.Memory → e ≢ LineFault.Write → output.new.calls.held ≡ false) }
 {
     // For the proof: the silo's type keeps that its journal leads to what it holds.
     let _ = silo.journal();

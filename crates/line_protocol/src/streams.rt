@@ -19,7 +19,7 @@ pub struct Input<R> {
     pub reader: R,
 }
 
-/// A writer, with whether one of its calls failed.
+/// A writer, with whether one of its calls failed, and whether something that was written is held back.
 #[derive(Drop)]
 pub struct Output<W> {
     pub calls: WriterCalls,
@@ -54,6 +54,7 @@ impl<W: Write> Output<W> {
     pub fn new(writer: W) -> Output<W>
         ensures writer { result.writer ≡ writer }
         ensures failed { result.calls.failed ≡ false }
+        ensures held { result.calls.held ≡ false }
     {
         Output {
             calls: WriterCalls::none(),
@@ -61,7 +62,7 @@ impl<W: Write> Output<W> {
         }
     }
 
-    /// Writes all of the bytes. A write that is interrupted is made again.
+    /// Writes all of the bytes. A write that is interrupted is made again. From now on something is held back.
     ///
     /// # Errors
     ///
@@ -72,20 +73,23 @@ impl<W: Write> Output<W> {
         ensures unfailed { OnOk result (self.new.calls.failed ≡ self.old.calls.failed) }
         ensures fault { OnErr result (result ≡ Err fault.Write) }
         ensures failed { OnErr result (self.new.calls.failed ≡ true) }
+        ensures held { self.new.calls.held ≡ true }
     {
         self.calls.write_whole(&mut self.writer, bytes)
     }
 
-    /// Lets out what was written.
+    /// Lets out what was written: then nothing is held back.
     ///
     /// # Errors
     ///
-    /// `Write` if the flush failed, and only then.
+    /// `Write` if the flush failed, and only then. What was held back may be so still.
     pub fn flush(&mut self) -> Result<(), LineFault>
         ensures kept { Keeps (W.contents self.old.writer) (W.contents self.new.writer) }
         ensures unfailed { OnOk result (self.new.calls.failed ≡ self.old.calls.failed) }
         ensures fault { OnErr result (result ≡ Err fault.Write) }
         ensures failed { OnErr result (self.new.calls.failed ≡ true) }
+        ensures out { OnOk result (self.new.calls.held ≡ false) }
+        ensures held { OnErr result (self.new.calls.held ≡ self.old.calls.held) }
     {
         self.calls.flush(&mut self.writer)
     }

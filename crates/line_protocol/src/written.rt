@@ -7,10 +7,12 @@ ghost use Rattle.line_protocol.specs.declared.fault.LineFault.TheVariants as fau
 use crate::fault::LineFault;
 use std::io::{ErrorKind, Write};
 
-/// Whether a call of a writer failed, and how many were interrupted. Nothing else is a failure.
+/// Whether a call of a writer failed, and how many were interrupted: nothing else is a failure. And whether something is
+/// held back: bytes were written since the last flush that went well, as far as calls go.
 #[derive(Drop)]
 pub struct WriterCalls {
     failed: bool,
+    held: bool,
     interrupted: u64,
     ghost counted: { interrupted ≤ 18446744073709551615 },
 }
@@ -21,10 +23,12 @@ impl WriterCalls {
     /// No call was made yet.
     pub fn none() -> WriterCalls
         ensures failed { result.failed ≡ false }
+        ensures held { result.held ≡ false }
         ensures interrupted { result.interrupted ≡ 0 }
     {
         WriterCalls {
             failed: false,
+            held: false,
             interrupted: 0,
         }
     }
@@ -38,6 +42,7 @@ impl WriterCalls {
         ensures unfailed { OnOk result (self.new.failed ≡ self.old.failed) }
         ensures fault { OnErr result (result ≡ Err fault.Write) }
         ensures failed { OnErr result (self.new.failed ≡ true) }
+        ensures held { self.new.held ≡ self.old.held }
 
         // A write that isn't interrupted takes some bytes.
         ensures onward { IfOk result (λ n. self.old.interrupted < self.new.interrupted + n) }
@@ -56,7 +61,8 @@ impl WriterCalls {
         Err(LineFault::Write)
     }
 
-    /// Writes all of the bytes. A write that is interrupted is made again.
+    /// Writes all of the bytes. A write that is interrupted is made again. From now on something is held back, whatever
+    /// the bytes are and however it ends.
     ///
     /// # Errors
     ///
@@ -67,7 +73,9 @@ impl WriterCalls {
         ensures unfailed { OnOk result (self.new.failed ≡ self.old.failed) }
         ensures fault { OnErr result (result ≡ Err fault.Write) }
         ensures failed { OnErr result (self.new.failed ≡ true) }
+        ensures held { self.new.held ≡ true }
     {
+        self.held = true;
         let mut rest = bytes;
         'writes: while !rest.is_empty() {
             rest = &rest[self.write_some(writer, rest)?..];
@@ -75,18 +83,21 @@ impl WriterCalls {
         Ok(())
     }
 
-    /// Lets out what was written.
+    /// Lets out what was written: then nothing is held back.
     ///
     /// # Errors
     ///
-    /// `Write` if the flush failed, and only then.
+    /// `Write` if the flush failed, and only then. What was held back may be so still.
     pub fn flush<W: Write>(&mut self, writer: &mut W) -> Result<(), LineFault>
         ensures kept { Keeps (W.contents writer.old) (W.contents writer.new) }
         ensures unfailed { OnOk result (self.new.failed ≡ self.old.failed) }
         ensures fault { OnErr result (result ≡ Err fault.Write) }
         ensures failed { OnErr result (self.new.failed ≡ true) }
+        ensures out { OnOk result (self.new.held ≡ false) }
+        ensures held { OnErr result (self.new.held ≡ self.old.held) }
     {
         if writer.flush().is_ok() {
+            self.held = false;
             return Ok(());
         }
         self.failed = true;

@@ -1,6 +1,6 @@
 //! What is written for lanes that were served.
 
-ghost use Rattle.std.specs.Prelude.{◌≡◌, ◌++◌, true, IfErr, OnOk, string_bytes, flat_map, map as map_list};
+ghost use Rattle.std.specs.Prelude.{◌≡◌, ◌++◌, false, true, IfErr, OnOk, string_bytes, flat_map, map as map_list};
 ghost use Rattle.std.specs.Io.KnownBytes.{Appends};
 ghost use Rattle.std.specs.BTreeMap.{values};
 ghost use Rattle.std.specs.FinMap as finite;
@@ -210,6 +210,7 @@ pub fn write_outcome<W: Write>(
         (W.contents output.old.writer) (W.contents output.new.writer)) }
     ensures cause { IfErr result (λ why. why ≡ line.Write → output.new.calls.failed ≡ true) }
     ensures unfailed { OnOk result (output.new.calls.failed ≡ output.old.calls.failed) }
+    ensures out { OnOk result (output.new.calls.held ≡ false) }
 {
     match write_parts(alloc, refusals, answers, replies, output) {
         Ok(()) => output.flush(),

@@ -5,6 +5,7 @@ use Rattle.std.specs.Io.KnownBytes.{Appends, Keeps}
 use Rattle.std.proofs.KnownBytes.{Appends-trans, Appends-nil}
 use Rattle.grain_logic.specs.Logic.{Logic}
 use Rattle.silo_model.specs.Journal.{LeadsTo}
+use Rattle.silo_model.specs.Segments.{untold}
 use Rattle.silo_model.specs.Whole.{Whole}
 use Rattle.silo_core.specs.History.{History}
 use Rattle.line_protocol.specs.Limits.{kept_limit}
@@ -30,6 +31,7 @@ use Rattle.log_answer.specs.Answers.{heard_of, kept_line, kept_lines, led, silo_
 use Rattle.log_answer.specs.Runs.{GoesOn}
 use Rattle.log_answer.specs.inside.Commits.{Settles}
 use Rattle.log_answer.specs.inside.Gathering.{Gathers}
+use Rattle.log_answer.proofs.Left.{led_alike, told_alike}
 use Rattle.log_answer.proofs.Led.{kept_append, kept_says, led_append, silos_grow, text_append, told_append}
 
 -- ---- lines without LF
@@ -173,9 +175,9 @@ module _ (logic : Logic) (n : ℕ) where
     is_asked w first sum place name h acts mid same on s =
         let log = silo_log logic n w place.name first in
         let had = lines_in log h.file in
-        let there : led logic n w (had ++ kept_lines told) ≡ led logic n old.whole told =
-        led_append logic n w had (kept_lines told) ∙ ap (λ x. led logic n x (kept_lines told)) (sym on.leads)
-        ∙ led_by_heard old.whole (kept_lines told) told (kept_heard told) in
+        let there : untold (led logic n w (had ++ kept_lines told)) ≡ untold (led logic n old.whole told) =
+        ap untold (led_append logic n w had (kept_lines told)) ∙ led_alike logic n (led logic n w had) old.whole (kept_lines told) (sym on.leads)
+        ∙ ap untold (led_by_heard old.whole (kept_lines told) told (kept_heard told)) in
         record {
           same = sym same;
           plain = on.plain;
@@ -187,9 +189,9 @@ module _ (logic : Logic) (n : ℕ) where
           answer =
               told_append logic n w (lines_in log (held_from h s.more).file) (kept_lines pending)
               ∙ (λ i. sym s.settled.said i ++ told_for logic n (led logic n w (s.lines_then i)) (kept_lines pending))
-              ∙ ap (λ x. (held_from h s.more).said ++ told_for logic n x (kept_lines pending)) there
               ∙ ap (λ t. (held_from h s.more).said ++ t)
-              (told_by_heard (led logic n old.whole told) (kept_lines pending) pending (kept_heard pending) ∙ sym p.texts_are);
+              (told_alike logic n (led logic n w (had ++ kept_lines told)) (led logic n old.whole told) (kept_lines pending) there
+              ∙ told_by_heard (led logic n old.whole told) (kept_lines pending) pending (kept_heard pending) ∙ sym p.texts_are);
         }
 
 -- ---- acts, one after another

@@ -14,15 +14,16 @@ use Rattle.answer_model.specs.Idle.{AllIdle}
 use Rattle.log_host.specs.Acts.{Act, Held, held_from}
 use Rattle.log_host.proofs.Moments.{held_on}
 use Rattle.log_host.specs.declared.place.LogPlace.{LogPlace}
-use Rattle.log_answer.specs.Answers.{kept_line, kept_lines, silo_log}
+use Rattle.log_answer.specs.Answers.{HasLeft, kept_line, kept_lines, silo_log}
 use Rattle.log_host.specs.Lasting.{LastsFrom}
 use Rattle.log_answer.specs.Runs.{AnswersLogged, GoesOn, KeepsLines, StopsLogged}
 use Rattle.log_answer.specs.Starts.{IsOwn, MarksTell, OwnsFrom}
 use Rattle.log_answer.specs.declared.running.LogFault.{LogFault}
 use Rattle.log_answer.specs.declared.running.LogFault.TheVariants as fault
 use Rattle.log_answer.specs.inside.Commits.{Breaks, Commits, Settles, StopsTaking, Waits}
-use Rattle.log_answer.specs.inside.Gathering.{Gathers}
+use Rattle.log_answer.specs.inside.Gathering.{Gathers, GathersOn}
 use Rattle.log_answer.proofs.Done.{Done, done_gathered, done_left, done_none, settles_last, settles_none}
+use Rattle.log_answer.proofs.Left.{gathers_on}
 use Rattle.log_answer.proofs.Own.{own_part, own_settled, same_more, tells_same}
 use Rattle.log_answer.proofs.Ends.{asking, committed, done_all, keeps_all, lasts_taking, lasts_then, settles_then, stops_full, stops_memory, stops_taking}
 
@@ -45,6 +46,13 @@ pub record Going (logic : Logic) (n count : ℕ) (from left : Option (List ℕ))
   pub keeps : Keeping logic n begun old.whole told start new place.sum
   pub tells : Telling logic n begun place old.whole start new
   pub name : place.name ≡ begun.name
+
+-- so far, by a silo that has what is left of the history to which the lines lead
+pub record GoingOn (keeps : Bool) (logic : Logic) (n count : ℕ) (from left : Option (List ℕ)) (old now : History) (before after : Option (List ℕ))
+    (asked texts : List ℕ) (begun place : LogPlace) (start new : Option (List Act)) : Type 0 where
+  pub all : History
+  pub has : HasLeft keeps all now
+  pub going : Going logic n count from left old all before after asked texts begun place start new
 
 module _ (logic : Logic) (n : ℕ) where
   pub going_none : (from : Option (List ℕ)) (old : History) (before : Option (List ℕ)) (asked texts : List ℕ) (begun : LogPlace) (start : Option (List Act))
@@ -130,6 +138,15 @@ module _ (logic : Logic) (n : ℕ) where
       tells = p.tells;
       name = p.name;
     }
+
+    -- of a silo that has what is left
+    pub gathered_on : (keeps here : Bool) (has new : History) → here ≡ keeps → HasLeft keeps now has → (next : Option (List ℕ)) (found shown asked_then texts_then : List ℕ) → found ≡ shown
+        → (w : TakesCut left next shown) → GathersOn here logic n has (kept_line found) new asked asked_then texts texts_then
+        → GoingOn keeps logic n (count + 1) from next old new before during asked_then texts_then begun place start mid
+    gathered_on keeps here has new is left_there next found shown asked_then texts_then same w g =
+        let on = gathers_on logic n keeps now has new left_there (kept_line found) asked asked_then texts texts_then
+        (subst (λ (b : Bool). GathersOn b logic n has (kept_line found) new asked asked_then texts texts_then) is g) in
+        record { all = on.0; has = on.2; going = going_gathered next on.0 found shown asked_then texts_then same w on.1 }
 
     -- ---- the end of the input, behind the last batch
 

@@ -1,9 +1,11 @@
 pub mod Led
+pub mod Left
 pub mod Luck
 pub mod Done
 pub mod Ends
 pub mod Going
 pub mod Kept
 pub mod Passed
+pub mod Passing
 pub mod Lives
 pub mod Own

@@ -1,6 +1,8 @@
 -- Laws of a silo that starts again and again from its log.
-use Rattle.std.specs.Prelude.{◌≡◌, ℕ, List, ◌++◌}
+use Rattle.std.specs.Prelude.{◌≡◌, ℕ, Bool, List, ◌++◌}
 use Rattle.grain_logic.specs.Logic.{Logic}
+use Rattle.silo_event.specs.declared.reply.Reply.{Reply}
+use Rattle.silo_model.specs.Segments.{told_before, untold}
 use Rattle.silo_model.specs.Whole.{Whole, shown_to}
 use Rattle.silo_core.specs.History.{History}
 use Rattle.answer_model.specs.Apart.{asked_by}
@@ -9,9 +11,9 @@ use Rattle.log_text.specs.Lines.{HasNoBreak, IsPrefixOf}
 use Rattle.log_host.specs.declared.place.LogPlace.{LogPlace}
 use Rattle.log_host.specs.Lasting.{Grows, lines_in}
 use Rattle.log_host.specs.Laws.{AllTold, AreLives, Life, left_by, restarted}
-use Rattle.log_answer.specs.Answers.{heard_of, led, silo_log, told_for}
+use Rattle.log_answer.specs.Answers.{HasLeft, heard_of, led, silo_log, told_for}
 use Rattle.log_answer.specs.Runs.{GoesOn}
-use Rattle.log_answer.specs.Starts.{AnswersAgain, IsOwn, MarksTell, StopsAgain}
+use Rattle.log_answer.specs.Starts.{AgainOn, AnswersAgain, IsOwn, MarksTell, StopsAgain}
 use Rattle.log_answer.specs.declared.starting.Again.{Again}
 use Rattle.log_answer.specs.declared.starting.AgainFault.{AgainFault}
 use Rattle.log_answer.specs.declared.starting.AgainFault.TheVariants as fault
@@ -21,10 +23,10 @@ abbrev pub SilosGrow : Type 0
 SilosGrow = (logic : Logic) (n : ℕ) (w : Whole) → Grows (told_for logic n w)
 
 -- A start that answered a log again, whatever a crash left of it, goes on: what it keeps of the log is settled, and the silo is where its
--- lines lead.
+-- lines lead, whether it keeps its history or drops it.
 abbrev pub StartsGoOn : Type 0
-StartsGoOn = (logic : Logic) (n : ℕ) (place : LogPlace) (left : List ℕ) (old new : History) (again : Again)
-    → HasNoBreak place.name → AnswersAgain logic n place left old new again
+StartsGoOn = (keeps : Bool) (logic : Logic) (n : ℕ) (place : LogPlace) (left : List ℕ) (old new : History) (again : Again)
+    → HasNoBreak place.name → AgainOn keeps logic n place left old new again
     → GoesOn logic n old.whole place.sum again.place (restarted (silo_log logic n old.whole place.name place.sum) left) new.whole
 
 -- The marks of what such a start keeps say the sums of what is told, up to the place where it goes on.
@@ -53,12 +55,24 @@ abbrev pub LinesLeadOn : Type 0
 LinesLeadOn = (logic : Logic) (n : ℕ) (w : Whole) (lines more : List (List ℕ))
     → led logic n w (lines ++ more) ≡ led logic n (led logic n w lines) more
 
--- Two logs whose lines ask the same for a tenant show it the same, whatever the lines of others are.
+-- Nothing that lines lead to, or that is told for them, depends on the replies that were made before.
+abbrev pub TellsAsEver : Type 0
+TellsAsEver = (logic : Logic) (n : ℕ) (w : Whole) (replies : List Reply) (lines : List (List ℕ))
+    → (led logic n (told_before replies w) lines ≡ told_before replies (led logic n w lines))
+    × (told_for logic n (told_before replies w) lines ≡ told_for logic n w lines)
+
+-- What is left of a history is all of it, but for its steps and its replies.
+abbrev pub LeftIsAll : Type 0
+LeftIsAll = (keeps : Bool) (all new : History) → HasLeft keeps all new → untold new.whole ≡ untold all.whole
+
+-- Two logs whose lines ask the same for a tenant show it the same, whatever the lines of others are: in the histories to which they lead,
+-- and in what is left of them but for its replies.
 abbrev pub LogsApart : Type 0
-LogsApart = (logic : Logic) (n : ℕ) (place other : LogPlace) (left right : List ℕ) (tenant : List ℕ)
+LogsApart = (keeps holds : Bool) (logic : Logic) (n : ℕ) (place other : LogPlace) (left right : List ℕ) (tenant : List ℕ)
     (old new before after : History) (again there : Again)
-    → (here : AnswersAgain logic n place left old new again) → (beside : AnswersAgain logic n other right before after there)
+    → (here : AgainOn keeps logic n place left old new again) → (beside : AgainOn holds logic n other right before after there)
     → shown_to tenant old.whole ≡ shown_to tenant before.whole
     → asked_by tenant (asks_of (heard_of (lines_in (silo_log logic n old.whole place.name place.sum) left)))
     ≡ asked_by tenant (asks_of (heard_of (lines_in (silo_log logic n before.whole other.name other.sum) right)))
-    → shown_to tenant new.whole ≡ shown_to tenant after.whole
+    → (shown_to tenant here.all.whole ≡ shown_to tenant beside.all.whole)
+    × (shown_to tenant (untold new.whole) ≡ shown_to tenant (untold after.whole))

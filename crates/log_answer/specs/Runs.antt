@@ -2,6 +2,7 @@
 use Rattle.std.specs.Prelude.{◌≡◌, ◌⊎◌, ℕ, Bool, true, List, [], ◌++◌, length, Option, Some}
 use Rattle.std.specs.Io.KnownBytes.{Appends}
 use Rattle.grain_logic.specs.Logic.{Logic}
+use Rattle.silo_model.specs.Segments.{untold}
 use Rattle.silo_model.specs.Whole.{Whole}
 use Rattle.silo_core.specs.History.{History}
 use Rattle.line_protocol.specs.Limits.{calls_limit}
@@ -13,17 +14,17 @@ use Rattle.log_text.specs.Lines.{HasNoBreak}
 use Rattle.log_host.specs.Acts.{Act, Held, held_from}
 use Rattle.log_host.specs.Lasting.{IsSettled, Log, lines_in}
 use Rattle.log_host.specs.declared.place.LogPlace.{LogPlace}
-use Rattle.log_answer.specs.Answers.{IsLed, kept_lines, led, silo_log, told_for}
+use Rattle.log_answer.specs.Answers.{HasLeft, IsLed, kept_lines, led, silo_log, told_for}
 use Rattle.log_answer.specs.declared.running.LogFault.{LogFault}
 use Rattle.log_answer.specs.declared.running.LogFault.TheVariants as fault
 
 module _ (logic : Logic) (n : ℕ) where
   -- A log of lines that were first asked where the silo was `w`, with `first` as the sum before them. It is settled, and the silo is where
-  -- its lines lead.
+  -- its lines lead, but for its replies: nothing that is told depends on those that were made before.
   pub record GoesOn (w : Whole) (first : ℕ) (place : LogPlace) (h : Held) (silo : Whole) : Type 0 where
     pub plain : HasNoBreak place.name
     pub settled : IsSettled (silo_log logic n w place.name first) h place.sum
-    pub leads : silo ≡ led logic n w (lines_in (silo_log logic n w place.name first) h.file)
+    pub leads : untold silo ≡ untold (led logic n w (lines_in (silo_log logic n w place.name first) h.file))
 
   -- All of the input was read, it has so many lines, the silo answered each and nothing failed, and what was written is their text.
   pub record AnswersLogged (input : List ℕ) (count : ℕ) (old new : History) (left before after : Option (List ℕ)) : Type 0 where
@@ -52,6 +53,13 @@ module _ (logic : Logic) (n : ℕ) where
         × (IsAnsweredOut p.told p.others ⊎ ((reading.calls.made ≡ calls_limit) × AreTaken input left p.told))
     StopsLogged fault.Memory = (p : TellsFirst (lines_of input) w before after) × (p.batch ≡ [])
     StopsLogged fault.Write = TellsFirst (lines_of input) w before after × (failed ≡ true)
+
+-- All was answered so, and of the history to which the lines lead the silo has what is left.
+pub record LogsOn (keeps : Bool) (logic : Logic) (n : ℕ) (input : List ℕ) (count : ℕ) (old new : History)
+    (left before after : Option (List ℕ)) : Type 0 where
+  pub all : History
+  pub has : HasLeft keeps all new
+  pub answers : AnswersLogged logic n input count old all left before after
 
 -- The log was given these lines, and is settled again.
 pub record KeepsLines (log : Log) (h : Held) (lines : List (List ℕ)) (old : List Act) (new : Option (List Act)) : Type 0 where

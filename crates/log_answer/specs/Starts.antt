@@ -1,5 +1,5 @@
 -- What a start makes of a log's bytes.
-use Rattle.std.specs.Prelude.{◌≡◌, ◌≢◌, ℕ, ◌+◌, List, [], ◌∷◌, ◌++◌, length, Option, Some, None}
+use Rattle.std.specs.Prelude.{◌≡◌, ◌≢◌, ℕ, ◌+◌, Bool, List, [], ◌∷◌, ◌++◌, length, Option, Some, None}
 use Rattle.grain_logic.specs.Logic.{Logic}
 use Rattle.silo_model.specs.Whole.{Whole}
 use Rattle.silo_core.specs.History.{History}
@@ -9,7 +9,7 @@ use Rattle.log_text.specs.Lines.{IsPrefixOf}
 use Rattle.log_text.specs.Reading.{fault_in, left_in, lines_of, recovered}
 use Rattle.log_host.specs.Acts.{Act, Held, held_from}
 use Rattle.log_host.specs.declared.place.LogPlace.{LogPlace}
-use Rattle.log_answer.specs.Answers.{IsLed, led, told_for}
+use Rattle.log_answer.specs.Answers.{HasLeft, IsLed, led, told_for}
 use Rattle.log_answer.specs.declared.starting.Again.{Again}
 use Rattle.log_answer.specs.declared.starting.AgainFault.{AgainFault}
 use Rattle.log_answer.specs.declared.starting.AgainFault.TheVariants as fault
@@ -88,3 +88,10 @@ module _ (logic : Logic) (n : ℕ) where
     pub more : List Act
     pub acts : new ≡ Some (old ++ more)
     pub own : IsOwn w name first told (held_from h more).file
+
+-- The silo answered them again, and of the history to which they lead it has what is left.
+pub record AgainOn (keeps : Bool) (logic : Logic) (n : ℕ) (place : LogPlace) (bytes : List ℕ) (old new : History) (again : Again)
+    : Type 0 where
+  pub all : History
+  pub left : HasLeft keeps all new
+  pub answers : AnswersAgain logic n place bytes old all again

@@ -1,7 +1,7 @@
 //! One line that is answered, if nothing fails.
 
 ghost use Rattle.std.specs.Prelude.{◌≡◌, false, [], ◌∷◌, OnOk, string_bytes};
-ghost use Rattle.log_answer.specs.Answers.{LeadsLines};
+ghost use Rattle.log_answer.specs.Answers.{LeadsOn};
 
 use crate::well::all_went_well;
 use bumpalo::Bump;
@@ -30,7 +30,7 @@ impl LineTools {
     }
 }
 
-/// Answers a line. What it is told is the text.
+/// Answers a line. What it is told is the text. After it a silo that needn't keep its history may drop it.
 ///
 /// # Errors
 ///
@@ -43,8 +43,10 @@ pub(crate) fn answer_well<S: GrainStorage, L: GrainLogic>(
     line: &[u8],
 ) -> Result<(), AllocError>
     requires { silo.old.stopped ≡ false }
-    ensures leads { OnOk result (LeadsLines L.logic most silo.old.history (line.now ∷ []) silo.new.history (string_bytes tools.new.text)) }
+    ensures leads { OnOk result (LeadsOn silo.old.keeps L.logic most silo.old.history (line.now ∷ []) silo.new.history
+        (string_bytes tools.new.text)) }
     ensures ready { OnOk result (silo.new.stopped ≡ false) }
+    ensures keeps { silo.new.keeps ≡ silo.old.keeps }
 {
     let before = silo.journal().len();
     answer_line(
@@ -58,6 +60,7 @@ pub(crate) fn answer_well<S: GrainStorage, L: GrainLogic>(
     )?;
     let (_, new) = silo.journal().split_at(before);
     if all_went_well(new) {
+        silo.note(alloc, line.len().saturating_add(tools.text.len()));
         Ok(())
     } else {
         Err(AllocError)

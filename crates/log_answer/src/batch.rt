@@ -5,7 +5,7 @@ ghost use Rattle.std.specs.Io.KnownBytes.{Keeps};
 ghost use Rattle.log_text.specs.Batches.{line_text};
 ghost use Rattle.log_answer.specs.Answers.{kept_line};
 ghost use Rattle.log_answer.specs.inside.Commits.{Breaks, Commits};
-ghost use Rattle.log_answer.specs.inside.Gathering.{Gathers};
+ghost use Rattle.log_answer.specs.inside.Gathering.{GathersOn};
 
 use crate::answering::{LineTools, answer_well};
 use grain_logic::GrainLogic;
@@ -82,9 +82,10 @@ pub(crate) fn answer_more<S: GrainStorage, L: GrainLogic>(
     batch: &mut Batch,
 ) -> Result<(), AllocError>
     requires { silo.old.stopped ≡ false }
-    ensures gathers { OnOk result (Gathers L.logic most silo.old.history (kept_line line.now) silo.new.history
+    ensures gathers { OnOk result (GathersOn silo.old.keeps L.logic most silo.old.history (kept_line line.now) silo.new.history
         batch.old.asked.items batch.new.asked.items batch.old.text.items batch.new.text.items) }
     ensures ready { OnOk result (silo.new.stopped ≡ false) }
+    ensures keeps { silo.new.keeps ≡ silo.old.keeps }
 {
     let kept = kept_part(line);
     answer_well(alloc, tools, silo, most, kept)?;
@@ -112,6 +113,9 @@ pub(crate) fn commit_batch<H: LogHost, W: Write>(
     ensures failed { result ≡ Err CommitFault.Host → H.failed log.new ≡ true }
     ensures unfailed { OnOk result (H.failed log.new ≡ H.failed log.old) }
     ensures output { OnOk result (output.new.calls.failed ≡ output.old.calls.failed) }
+
+    // What was told goes out: nothing is held back if nothing was before.
+    ensures out { OnOk result (output.old.calls.held ≡ false → output.new.calls.held ≡ false) }
 {
     if batch.asked.is_empty() {
         return Ok(place);

@@ -1,6 +1,7 @@
 //! Laws of a silo that starts again and again from its log. Each is the contract of a function that does nothing.
 
-ghost use Rattle.log_answer.specs.Laws.{LinesLeadOn, LogsApart, OwnTaken, SilosGrow, SilosLast, StartsGoOn, StartsTell};
+ghost use Rattle.log_answer.specs.Laws.{LeftIsAll, LinesLeadOn, LogsApart, OwnTaken, SilosGrow, SilosLast, StartsGoOn, StartsTell};
+ghost use Rattle.log_answer.specs.Laws.{TellsAsEver};
 
 /// What a silo tells for some lines is the beginning of what it tells for them and for more.
 #[tactic(auto, using(crate::proofs::Led::silos_grow))]
@@ -9,7 +10,7 @@ pub fn silos_grow()
 {}
 
 /// A start that answered a log again, whatever a crash left of it, goes on: what it keeps of the log is settled, and the silo is
-/// where its lines lead.
+/// where its lines lead, whether it keeps its history or drops it.
 #[tactic(auto, using(crate::proofs::Lives::starts_go_on))]
 pub fn starts_go_on()
     ensures { StartsGoOn }
@@ -39,8 +40,18 @@ pub fn lines_lead_on()
     ensures { LinesLeadOn }
 {}
 
+/// Nothing that lines lead to, or that is told for them, depends on the replies that were made before.
+pub fn tells_as_ever()
+    ensures { TellsAsEver }
+{}
+
+/// What is left of a history is all of it, but for its steps and its replies.
+#[tactic(auto, using(crate::proofs::Left::left_is_all))]
+pub fn left_is_all()
+    ensures { LeftIsAll }
+{}
+
 /// Two logs whose lines ask the same for a tenant show it the same, whatever the lines of others are.
-#[tactic(auto, using(crate::proofs::Lives::logs_apart))]
 pub fn logs_apart()
     ensures { LogsApart }
 {}

@@ -1,6 +1,6 @@
 //! Every line of an input, in a log before anything is told for it.
 
-ghost use Rattle.std.specs.Prelude.{◌≡◌, ◌⊎◌, ◌≤◌, [], false, true, List, ℕ, Ok, Option, Some, IfErr, IfOk, IfSome, OnErr, OnOk};
+ghost use Rattle.std.specs.Prelude.{◌≡◌, ◌≢◌, ◌⊎◌, ◌≤◌, [], false, true, List, ℕ, Ok, Option, Some, IfErr, IfOk, IfSome, OnErr, OnOk};
 ghost use Rattle.std.specs.Io.KnownBytes.{IsAtEnd, Keeps};
 ghost use Rattle.silo_model.specs.Whole.{Whole};
 ghost use Rattle.line_protocol.specs.Lines.{lines_of};
@@ -9,7 +9,7 @@ ghost use Rattle.line_answer.specs.Limits.{answered_limit};
 ghost use Rattle.log_host.specs.Acts.{Act, Held};
 ghost use Rattle.log_host.specs.Lasting.{LastsFrom};
 ghost use Rattle.log_answer.specs.Answers.{silo_log};
-ghost use Rattle.log_answer.specs.Runs.{AnswersLogged, GoesOn, KeepsLines, StopsLogged};
+ghost use Rattle.log_answer.specs.Runs.{GoesOn, KeepsLines, LogsOn, StopsLogged};
 ghost use Rattle.log_answer.specs.Starts.{MarksTell, OwnsFrom};
 ghost use Rattle.log_answer.specs.inside.Commits.{Commits, StopsTaking, Waits};
 
@@ -81,6 +81,7 @@ impl From<CommitFault> for LogFault {
 fn take_at_hand(lines: &mut LineReader, batch: &Batch) -> bool
     ensures some { result ≡ true → (rest : Option (List ℕ)) → TakesCut (left_of lines.old rest) (left_of lines.new rest) lines.new.line }
     ensures none { result ≡ false → lines.new ≡ lines.old }
+    ensures calls { lines.new.calls ≡ lines.old.calls }
 {
     if batch.is_full() {
         return false;
@@ -115,6 +116,12 @@ fn take_next<R: Read, W: Write, H: LogHost>(
     ensures begun { H.begun log.new ≡ H.begun log.old }
     ensures unfailed { OnOk result (H.failed log.new ≡ H.failed log.old) }
     ensures output { OnOk result (output.new.calls.failed ≡ output.old.calls.failed) }
+    ensures out { OnOk result (output.old.calls.held ≡ false → output.new.calls.held ≡ false) }
+
+    // Where a read was made, however it ends, the batch was told before, and nothing is held back if nothing was before.
+    ensures empty { input.new.lines.calls.made ≢ input.old.lines.calls.made → batch.new.asked.items ≡ [] }
+    ensures waits { input.new.lines.calls.made ≢ input.old.lines.calls.made → output.old.calls.held ≡ false
+        → output.new.calls.held ≡ false }
 {
     if take_at_hand(&mut input.lines, batch) {
         return Ok(true);
@@ -129,7 +136,8 @@ fn take_next<R: Read, W: Write, H: LogHost>(
 ///
 /// What one read brought is one batch: all of its lines are answered, and then they are kept and their text is told, before a
 /// read that may wait. A batch with more than 1,048,576 bytes of lines, or of texts, takes no line more. The log has each line, with
-/// at most 65,537 bytes of it.
+/// at most 65,537 bytes of it. A silo that needn't keep its history drops it between two lines, from time to time: it answers as if
+/// it had kept all.
 ///
 /// # Errors
 ///
@@ -154,7 +162,7 @@ pub fn answer_logged<R: Read, W: Write, H: LogHost, S: GrainStorage, L: GrainLog
         → GoesOn L.logic most w first place h silo.old.history.whole
         → LastsFrom (silo_log L.logic most w place.name first) h acts (H.acts log.new) }
     ensures answered { IfOk result (λ n. IfSome (left_of input.old.lines (R.remaining input.old.reader)) (λ bytes.
-        AnswersLogged L.logic most bytes n silo.old.history silo.new.history (R.remaining input.new.reader)
+        LogsOn silo.old.keeps L.logic most bytes n silo.old.history silo.new.history (R.remaining input.new.reader)
         (W.contents output.old.writer) (W.contents output.new.writer))) }
 
     // The log was given all lines.
@@ -166,6 +174,7 @@ pub fn answer_logged<R: Read, W: Write, H: LogHost, S: GrainStorage, L: GrainLog
         StopsLogged L.logic most bytes input.new.lines (R.remaining input.new.reader) (H.failed log.new) silo.old.history.whole
         (W.contents output.old.writer) (W.contents output.new.writer) why)) }
     ensures ready { OnOk result (silo.new.stopped ≡ false) }
+    ensures keeps { silo.new.keeps ≡ silo.old.keeps }
 
     // In every outcome: if the marks of the log say the sums of what was told for its lines, so do those of what it has then. So a start
     // takes it, wherever a crash cut it (`own_taken`).
@@ -179,6 +188,9 @@ pub fn answer_logged<R: Read, W: Write, H: LogHost, S: GrainStorage, L: GrainLog
     ensures bound { IfOk result (λ n. n ≤ answered_limit) }
     ensures unfailed { OnOk result (H.failed log.new ≡ H.failed log.old) }
     ensures output { OnOk result (output.new.calls.failed ≡ output.old.calls.failed) }
+
+    // What was told goes out: nothing is held back if nothing was before.
+    ensures out { OnOk result (output.old.calls.held ≡ false → output.new.calls.held ≡ false) }
 {
     // For the proof: where the silo's journal leads.
     let _ = silo.journal();

@@ -3,8 +3,8 @@
 ghost use Rattle.std.specs.Prelude.{◌≡◌, ◌≤◌, ◌+◌, ◌-◌, ℕ, None, Some, false, IfErr, IfOk, OnOk, length};
 ghost use Rattle.log_text.specs.Reading.{asked_lines, fault_in, same_text};
 ghost use Rattle.log_text.specs.Sums.{own_sums, spelled};
-ghost use Rattle.log_answer.specs.Answers.{LeadsLines};
-ghost use Rattle.log_answer.specs.Starts.{AnswersAgain, StopsAgain, kept_length};
+ghost use Rattle.log_answer.specs.Answers.{LeadsOn};
+ghost use Rattle.log_answer.specs.Starts.{AgainOn, StopsAgain, kept_length};
 
 use crate::answering::{LineTools, answer_well};
 use grain_logic::GrainLogic;
@@ -55,9 +55,11 @@ fn answer_asked<S: GrainStorage, L: GrainLogic>(
     text: &mut Vec<u8>,
 ) -> Result<usize, AllocError>
     requires { silo.old.stopped ≡ false }
-    ensures leads { OnOk result (LeadsLines L.logic most silo.old.history (asked_lines asked.now) silo.new.history text.new.items) }
+    ensures leads { OnOk result (LeadsOn silo.old.keeps L.logic most silo.old.history (asked_lines asked.now) silo.new.history
+        text.new.items) }
     ensures count { IfOk result (λ n. n ≡ length (asked_lines asked.now)) }
     ensures ready { OnOk result (silo.new.stopped ≡ false) }
+    ensures keeps { silo.new.keeps ≡ silo.old.keeps }
 {
     // For the proof: that all is idle.
     let _ = silo.journal();
@@ -112,7 +114,8 @@ fn end_again(
 /// Answers the lines of a log's bytes once more, from the place before them, which stand behind its head. Nothing is told. What each
 /// mark says was told is compared with what would be.
 ///
-/// What stands behind the last batch is to be cut off before the log goes on at the place that is answered.
+/// What stands behind the last batch is to be cut off before the log goes on at the place that is answered. A silo that needn't keep its
+/// history drops it between two lines, from time to time.
 ///
 /// # Errors
 ///
@@ -126,12 +129,13 @@ pub fn answer_again<S: GrainStorage, L: GrainLogic>(
     bytes: &[u8],
 ) -> Result<Again, AgainFault>
     requires { silo.old.stopped ≡ false }
-    ensures answered { IfOk result (λ again. AnswersAgain L.logic most place bytes.now silo.old.history silo.new.history again) }
+    ensures answered { IfOk result (λ again. AgainOn silo.old.keeps L.logic most place bytes.now silo.old.history silo.new.history again) }
 
     // So many bytes the batches have that were read, and what stands behind them is the end of one that was never acknowledged.
     ensures kept { IfOk result (λ again. again.length ≡ kept_length place bytes.now) }
     ensures stops { IfErr result (λ why. StopsAgain L.logic most place bytes.now silo.old.history.whole why) }
     ensures ready { OnOk result (silo.new.stopped ≡ false) }
+    ensures keeps { silo.new.keeps ≡ silo.old.keeps }
 {
     // For the proof: where the silo's journal leads, and that all is idle.
     let _ = silo.journal();

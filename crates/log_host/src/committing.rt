@@ -1,6 +1,6 @@
 //! A batch that is kept, and then told.
 
-ghost use Rattle.std.specs.Prelude.{◌≡◌, List, [], ◌∷◌, ◌++◌, Some, true, IfOk, OnErr, OnOk};
+ghost use Rattle.std.specs.Prelude.{◌≡◌, List, [], ◌∷◌, ◌++◌, Some, false, true, IfOk, OnErr, OnOk};
 ghost use Rattle.std.specs.Io.KnownBytes.{Appends};
 ghost use Rattle.line_protocol.specs.LineRuns.{WrittenInPart};
 ghost use Rattle.log_text.specs.Lines.{ended};
@@ -78,6 +78,7 @@ pub fn commit<H: LogHost, W: Write>(
     ensures failed { result ≡ Err CommitFault.Host → H.failed host.new ≡ true }
     ensures unfailed { OnOk result (H.failed host.new ≡ H.failed host.old) }
     ensures output { OnOk result (output.new.calls.failed ≡ output.old.calls.failed) }
+    ensures out { OnOk result (output.new.calls.held ≡ false) }
 {
     let all = sum_after(place.told, text);
     let Ok(next) = push_mark(batch, &place.name, place.sum, all) else {

@@ -1,6 +1,6 @@
 //! A host that keeps a log and tells what it is told, and one that opens it.
 
-ghost use Rattle.std.specs.Prelude.{◌≡◌, ◌≢◌, true, Bool, List, ℕ, [], ◌∷◌, IfErr, IfOk, OnErr, OnOk, Option, option_map};
+ghost use Rattle.std.specs.Prelude.{◌≡◌, ◌≢◌, false, true, Bool, List, ℕ, [], ◌∷◌, IfErr, IfOk, OnErr, OnOk, Option, option_map};
 ghost use Rattle.std.specs.Io.KnownBytes.{Appends};
 ghost use Rattle.log_host.specs.Acts.{Act, Adds, AddsPart, TellsPart, synced, told, wrote};
 ghost use Rattle.log_host.specs.Files.{Begins, Cuts, Finds, MayBegin, MayCut};
@@ -49,6 +49,7 @@ pub trait LogHost {
             (W.contents output.old.writer) (W.contents output.new.writer) bytes.now) }
         ensures unfailed { OnOk result (failed self.new ≡ failed self.old) }
         ensures output { OnOk result (output.new.calls.failed ≡ output.old.calls.failed) }
+        ensures out { OnOk result (output.new.calls.held ≡ false) }
         ensures failed { OnErr result (failed self.new ≡ true) };
 }
 

@@ -141,6 +141,7 @@ fn write_out<W: Write>(output: &mut Output<W>, bytes: &[u8]) -> Result<(), LineF
     ensures ok { OnOk result (Appends (W.contents output.old.writer) (W.contents output.new.writer) bytes.now) }
     ensures err { OnErr result (WrittenInPart (W.contents output.old.writer) (W.contents output.new.writer) bytes.now) }
     ensures unfailed { OnOk result (output.new.calls.failed ≡ output.old.calls.failed) }
+    ensures out { OnOk result (output.new.calls.held ≡ false) }
     ensures failed { OnErr result (output.new.calls.failed ≡ true) }
 {
     output.write_whole(bytes)?;
@@ -199,6 +200,7 @@ impl LogHost for MemoryLog {
             (W.contents output.old.writer) (W.contents output.new.writer) bytes.now) }
         ensures unfailed { OnOk result (self.new.failed ≡ self.old.failed) }
         ensures output { OnOk result (output.new.calls.failed ≡ output.old.calls.failed) }
+        ensures out { OnOk result (output.new.calls.held ≡ false) }
         ensures failed { OnErr result (self.new.failed ≡ true) }
 
         // It fails where the fuse burns, and otherwise only where memory is refused or a call of the output fails.

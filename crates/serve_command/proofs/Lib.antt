@@ -1,4 +1,4 @@
-mod NoRows
+mod Opened
 pub mod Stops
 pub mod ServingLemmas
 pub mod AskedJournals

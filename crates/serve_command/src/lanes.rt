@@ -1,8 +1,8 @@
 //! Serving the lines of an input by threads.
 
-ghost use Rattle.std.specs.Prelude.{◌≡◌, ◌≤◌, [], IfOk, IfErr, IfSome, map as map_list};
-ghost use Rattle.std.specs.FinMap.{entries};
+ghost use Rattle.std.specs.Prelude.{◌≡◌, ◌≤◌, IfOk, IfErr, IfSome, map as map_list};
 ghost use Rattle.lane_model.specs.Lanes.{AreDistinct};
+ghost use Rattle.silo_core.specs.Reopening.{OpensEmpty};
 ghost use Rattle.line_protocol.specs.Reading.{left_of};
 ghost use Rattle.worker_host.specs.declared.report.ServeFault.{ServeFault as ServeFaultValue};
 ghost use Rattle.line_service.specs.Asked.{lanes_of, refusals_of};
@@ -101,9 +101,9 @@ pub fn serve_read<
         served.report.silo (map_list (λ v. v.items) served.report.answers.items)) }
     ensures served_lanes { IfOk result (λ served. served.lanes.items ≡ lanes_of said.items) }
 
-    // The silo was opened with these tenants, this age and these ages, and no rows.
+    // The silo was opened with these tenants, this age and these ages, no rows, and nothing kept.
     ensures setup { IfOk result (λ served. served.report.silo.setup ≡ setup_of start.tenants start.age start.ages) }
-    ensures no_rows { IfOk result (λ served. entries served.report.silo.setup.rows ≡ []) }
+    ensures opens_empty { IfOk result (λ served. OpensEmpty served.report.silo.setup) }
 
     // It is a fault of serving lanes, or memory was refused.
     ensures fault { IfErr result (λ why. (fault : ServeFaultValue) × (why ≡ serving_fault fault)) }
@@ -148,9 +148,9 @@ pub fn serve_input<
     ensures served_lanes { IfOk result (λ served. IfSome (left_of input.old.lines (R.remaining input.old.reader)) (λ bytes.
         AreLanesOf bytes (R.remaining input.new.reader) served.lanes.items)) }
 
-    // The silo was opened with these tenants, this age and these ages, and no rows.
+    // The silo was opened with these tenants, this age and these ages, no rows, and nothing kept.
     ensures setup { IfOk result (λ served. served.report.silo.setup ≡ setup_of start.tenants start.age start.ages) }
-    ensures no_rows { IfOk result (λ served. entries served.report.silo.setup.rows ≡ []) }
+    ensures opens_empty { IfOk result (λ served. OpensEmpty served.report.silo.setup) }
 
     // Nothing was written yet.
     ensures fault { IfErr result (λ why. StopsServing why (left_of input.old.lines (R.remaining input.old.reader)) input.new.lines.calls) }

@@ -1,7 +1,7 @@
 //! Serving the lines of an input by threads, and keeping the journal.
 
-ghost use Rattle.std.specs.Prelude.{◌≡◌, ◌≤◌, [], IfOk, IfErr, IfSome, OnOk, map as map_list, option_map, string_bytes};
-ghost use Rattle.std.specs.FinMap.{entries};
+ghost use Rattle.std.specs.Prelude.{◌≡◌, ◌≤◌, false, [], IfOk, IfErr, IfSome, OnOk, map as map_list, option_map, string_bytes};
+ghost use Rattle.silo_core.specs.Reopening.{OpensEmpty};
 ghost use Rattle.line_protocol.specs.Reading.{IsFresh};
 ghost use Rattle.serve_command.specs.Lanes.{IsServed, StopsServing};
 ghost use Rattle.command_parts.specs.Setups.{setup_of, starting, version_of};
@@ -61,7 +61,7 @@ fn serve_reader<
     ensures served { IfOk result (λ told. IfSome (R.remaining input.old.reader) (λ bytes.
         IsServed L.logic (setup_of start.tenants start.age start.ages) bytes (R.remaining input.new.reader) told.served.refusals.items
         told.served.report.silo (map_list (λ v. v.items) told.served.report.answers.items))) }
-    ensures no_rows { IfOk result (λ told. entries told.served.report.silo.setup.rows ≡ []) }
+    ensures opens_empty { IfOk result (λ told. OpensEmpty told.served.report.silo.setup) }
     ensures told { IfOk result (λ told. IsTold telling (R.remaining input.old.reader) told.served.report.silo (string_bytes told.told)) }
     ensures untold { IfOk result (λ told. telling ≡ nothing_told → string_bytes told.told ≡ []) }
     ensures fault { IfErr result (λ why. StopsServing why (R.remaining input.old.reader) input.new.lines.calls) }
@@ -119,6 +119,7 @@ pub fn serve_lines<
         (string_bytes text)) }
     ensures untold { IfOk result (λ text. telling ≡ nothing_told → string_bytes text ≡ []) }
     ensures unfailed { OnOk result (output.new.calls.failed ≡ output.old.calls.failed) }
+    ensures out { OnOk result (output.new.calls.held ≡ false) }
     ensures fault { IfErr result (λ why. ServingFailsBy (starting (version_of L.logic start.kinds) start.tenants start.age start.ages)
         (claims F.may_hold F.may_fail F.may_leave files.old files.new) (option_map (λ path. path.now) journal.entry) why
         (R.remaining input.old.reader) (R.remaining input.new.reader) input.new.lines.calls

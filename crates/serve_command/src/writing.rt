@@ -1,6 +1,6 @@
 //! What is written for lanes that were served.
 
-ghost use Rattle.std.specs.Prelude.{◌≡◌, true, IfErr, OnOk, map as map_list};
+ghost use Rattle.std.specs.Prelude.{◌≡◌, false, true, IfErr, OnOk, map as map_list};
 ghost use Rattle.std.specs.Io.KnownBytes.{Appends};
 ghost use Rattle.line_protocol.specs.declared.fault.LineFault.TheVariants as line;
 ghost use Rattle.line_service.specs.ServedText.{StopsWriting, served_lines, served_text};
@@ -38,6 +38,7 @@ pub fn write_served<L: GrainLogic, W: Write>(
         (W.contents output.old.writer) (W.contents output.new.writer)) }
     ensures cause { IfErr result (λ why. why ≡ line.Write → output.new.calls.failed ≡ true) }
     ensures unfailed { OnOk result (output.new.calls.failed ≡ output.old.calls.failed) }
+    ensures out { OnOk result (output.new.calls.held ≡ false) }
 {
     let report = &served.report;
     write_outcome(

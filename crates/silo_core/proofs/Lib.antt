@@ -6,3 +6,4 @@ pub mod Alone
 pub mod Opened
 pub mod Quiet
 pub mod Walked
+pub mod Reopened

@@ -1,14 +1,16 @@
 //! The silo, and the journal that led to what it shows.
 
-ghost use Rattle.std.specs.Prelude.{◌≡◌, ◌<◌, ◌++◌, ℕ, List, [], IfOk, vec_len, vec_capacity};
+ghost use Rattle.std.specs.Prelude.{◌≡◌, ◌↔◌, ◌<◌, ◌++◌, ℕ, List, [], IfOk, IsTrue, vec_len, vec_capacity};
 ghost use Rattle.std.specs.FinMap.{entries};
-ghost use Rattle.silo_model.specs.Opening.{new_setup, nothing_kept, opening, start_of};
+ghost use Rattle.silo_model.specs.Opening.{new_setup, opening, start_of};
 ghost use Rattle.silo_model.specs.Whole.{shown_to};
 ghost use Rattle.silo_model.specs.Run.{restricted_to};
 ghost use Rattle.silo_model.specs.Journal.{LeadsTo};
 ghost use Rattle.silo_model.specs.Exclusive.{Exclusive, done_answers};
 ghost use Rattle.silo_model.specs.Settled.{Settled};
 ghost use Rattle.tenant_gate.specs.Age.{IsAge};
+ghost use Rattle.silo_state.specs.KeptParts.{kept_in};
+ghost use Rattle.silo_core.specs.Reopening.{OpensEmpty};
 ghost use Rattle.silo_core.specs.Runs.{noted};
 
 use crate::setup::Setup;
@@ -18,12 +20,13 @@ use grain_logic::GrainLogic;
 use grain_storage::{GrainStorage, Row};
 use idle_collector::AgeTable;
 use silo_event::{Answer, Reply, Step};
-use silo_state::SiloState;
+use silo_state::{KeptParts, SiloState};
 use std::alloc::{AllocError, Global};
 use std::marker::Model;
 use tenant_gate::{Age, TenantTable};
 
 mod at_once;
+mod reopen;
 mod run;
 mod steps;
 mod todo;
@@ -31,14 +34,15 @@ mod work;
 
 pub use run::RunReport;
 
-/// A silo: what its tenants have, beside the rows and the failures that it opened with, and the
-/// journal that led from there.
+/// A silo: what its tenants have, beside the rows, what was kept and the failures that it opened with,
+/// and the journal that led from there.
 #[derive(Drop)]
 pub struct Silo<S: GrainStorage, L: GrainLogic> {
     tenants: TenantTable,
     age: Age,
     ages: AgeTable,
     opening: Vec<(GrainId, Row)>,
+    kept: KeptParts,
     opening_failures: u64,
     state: SiloState<S, L>,
     journal: Vec<Step>,
@@ -58,13 +62,13 @@ impl<S: GrainStorage, L: GrainLogic> Model for Silo<S, L> {
     ghost coded = { Prim.hlevel (codes, by_grain_code, by_text_code, by_number_code, coded_tree, state_bytes.the_row.coded) };
 
     ghost view = { λ s. record {
-      setup = setup_of s.tenants s.age s.ages s.opening.items;
+      setup = setup_of s.tenants s.age s.ages s.opening.items s.kept;
       whole = s.state.whole;
       journal = s.journal.items;
       failures = record { at_opening = s.opening_failures; now = s.state.failures };
     } };
 
-    ghost invariant = { λ s. LeadsTo L.logic (setup_of s.tenants s.age s.ages s.opening.items) s.journal.items s.state.whole
+    ghost invariant = { λ s. LeadsTo L.logic (setup_of s.tenants s.age s.ages s.opening.items s.kept) s.journal.items s.state.whole
         × AreListed s.opening.items };
 }
 
@@ -116,6 +120,7 @@ impl<S: GrainStorage + Drop, L: GrainLogic + Drop> Silo<S, L> {
             age,
             ages,
             opening,
+            kept: KeptParts::nothing(alloc),
             opening_failures,
             state,
             journal: Vec::new(alloc),
@@ -151,6 +156,20 @@ impl<S: GrainStorage, L: GrainLogic> Silo<S, L> {
         ensures { result.now ≡ entries self.now.setup.rows }
     {
         self.opening.as_slice()
+    }
+
+    /// What was kept of a silo that was left, as this one opened: nothing, if it was never reopened.
+    pub fn opening_kept(&self) -> &KeptParts
+        ensures { kept_in result.now ≡ self.now.setup.kept }
+    {
+        &self.kept
+    }
+
+    /// Whether the silo opened empty: no row was stored, and nothing was kept.
+    pub fn opens_empty(&self) -> bool
+        ensures { IsTrue result ↔ OpensEmpty self.now.setup }
+    {
+        self.opening.is_empty() && self.kept.is_nothing()
     }
 
     /// How many calls of the storage had failed as the silo opened.
@@ -220,8 +239,7 @@ impl<S: GrainStorage, L: GrainLogic> Silo<S, L> {
     pub fn journal(&self) -> &[Step]
         ensures steps { result.now ≡ self.now.journal }
 
-        // They lead from the opening, of which nothing was kept, to what the silo shows.
-        ensures new { self.now.setup.kept ≡ nothing_kept }
+        // They lead from the opening to what the silo shows.
         ensures leads { LeadsTo L.logic self.now.setup self.now.journal self.now.whole }
 
         // At every prefix of them, a turn that may write is the only open turn of its grain.

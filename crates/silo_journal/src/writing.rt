@@ -1,11 +1,11 @@
 //! Writing the journal of a silo.
 
-ghost use Rattle.std.specs.Prelude.{◌≡◌, ℕ, List, [], All, None, IfOk};
-ghost use Rattle.std.specs.FinMap.{entries};
+ghost use Rattle.std.specs.Prelude.{◌≡◌, ℕ, List, All, None, IfOk};
 ghost use Rattle.journal_text.specs.JournalAnswers.{IsJournalText};
 ghost use Rattle.journal_text.specs.Rules.{AsksInRange, IsKinds};
 ghost use Rattle.journal_text.specs.Text.{journal_text};
 ghost use Rattle.audit_model.specs.Report.{IsFirstDifference};
+ghost use Rattle.silo_core.specs.Reopening.{OpensEmpty};
 ghost use Rattle.silo_journal.specs.SiloJournal.{journal_of};
 
 use grain_logic::GrainLogic;
@@ -14,7 +14,7 @@ use journal_text::{JournalParts, journal_of_parts};
 use silo_core::Silo;
 use std::alloc::{AllocError, Global};
 
-/// The text, in the newest form, of the journal of a silo that opened with no rows: the number that is given for its
+/// The text, in the newest form, of the journal of a silo that opened empty: the number that is given for its
 /// grains' logic, its age, the ages that kinds have of their own, its tenants with their limits, the steps
 /// that it took, its replies, and the rows that it holds.
 ///
@@ -26,7 +26,7 @@ pub fn write_journal<S: GrainStorage, L: GrainLogic>(
     silo: &Silo<S, L>,
     kinds: u8,
 ) -> Result<Vec<u8>, AllocError>
-    requires { entries silo.now.setup.rows ≡ [] }
+    requires { OpensEmpty silo.now.setup }
     ensures text { IfOk result (λ text. text.items ≡ journal_text (journal_of kinds silo.now)) }
 
     // It is read as that journal again, if a journal may tell the number, and each client asked under a number below 2^63.

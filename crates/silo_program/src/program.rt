@@ -1,6 +1,6 @@
 //! What the program does, over any files and streams.
 
-ghost use Rattle.std.specs.Prelude.{◌≡◌, ◌≢◌, ◌≤◌, ◌⊎◌, List, ℕ, Option, IfOk, IfErr, OnOk, map, option_map};
+ghost use Rattle.std.specs.Prelude.{◌≡◌, ◌≢◌, ◌≤◌, ◌⊎◌, false, List, ℕ, Option, IfOk, IfErr, OnOk, map, option_map};
 ghost use Rattle.std.specs.Io.KnownBytes.{Appends, Keeps};
 ghost use Rattle.clap.specs.Words.{Text};
 ghost use Rattle.line_protocol.specs.Reading.{IsFresh, Reading};
@@ -48,6 +48,7 @@ fn show<W: Write>(output: &mut Output<W>, text: &str) -> Result<End, ProgramFaul
     ensures whole { IfOk result (λ end. (end ≡ End.Well)
         × Appends (W.contents output.old.writer) (W.contents output.new.writer) text.now) }
     ensures unfailed { OnOk result (output.new.calls.failed ≡ output.old.calls.failed) }
+    ensures out { OnOk result (output.new.calls.held ≡ false) }
     ensures part { IfErr result (λ why. (why ≡ ProgramFault.Failed Cause.Write)
         × BreaksOff (W.contents output.old.writer) (W.contents output.new.writer) output.new.calls text.now) }
 {
@@ -62,6 +63,7 @@ fn explain_words<W: Write>(fault: WordsFault, output: &mut Output<W>) -> Result<
     ensures shown { (words : List Text) (from : Option (List ℕ)) → IsWhy words fault
         → IfOk result (λ end. (end ≡ End.Well) × ShowsText words from from (W.contents output.old.writer) (W.contents output.new.writer)) }
     ensures unfailed { OnOk result (output.new.calls.failed ≡ output.old.calls.failed) }
+    ensures out { OnOk result (output.new.calls.held ≡ false) }
     ensures fault { (words : List Text) (from : Option (List ℕ)) (reading : Reading) → IsWhy words fault
         → IfErr result (λ why. IsStreamFault words why from from reading
         (W.contents output.old.writer) (W.contents output.new.writer) output.new.calls) }
@@ -137,6 +139,7 @@ fn take_steps<R: Read, W: Write>(
         (R.remaining input.old.reader) (R.remaining input.new.reader)
         (W.contents output.old.writer) (W.contents output.new.writer)) }
     ensures unfailed { OnOk result (output.new.calls.failed ≡ output.old.calls.failed) }
+    ensures out { OnOk result (output.new.calls.held ≡ false) }
     ensures fault { (words : List Text) → AskForSteps words age (option_map (λ text. text.now) ages.entry)
         (map (λ text. text.now) arguments.now)
         → IfErr result (λ why. IsStreamFault words why
@@ -170,6 +173,7 @@ fn answer_tenants<F: WholeFiles, R: Read, W: Write>(
         → IfOk result (λ end. (end ≡ End.Well) × AnswersAtOnce words (claims F.may_hold F.may_fail F.may_leave files.old files.new)
         (R.remaining input.old.reader) (R.remaining input.new.reader) (W.contents output.old.writer) (W.contents output.new.writer)) }
     ensures unfailed { OnOk result (output.new.calls.failed ≡ output.old.calls.failed) }
+    ensures out { OnOk result (output.new.calls.held ≡ false) }
     ensures fault { (words : List Text) → AskForAnswering words age (option_map (λ text. text.now) ages.entry) sends
         (option_map (λ path. path.now) journal.entry) (map (λ text. text.now) arguments.now)
         → IfErr result (λ why. IsAnsweringFault words (claims F.may_hold F.may_fail F.may_leave files.old files.new) why
@@ -214,6 +218,7 @@ fn answer_in_folder<H: AllocGlobal + RandomSource, F: WholeFiles + DataFiles, R:
         → IfOk result (λ end. (end ≡ End.Well) × AnswersInFolder words (log_claims F.begun F.acts F.failed files.old files.new)
         (R.remaining input.old.reader) (R.remaining input.new.reader) (W.contents output.old.writer) (W.contents output.new.writer)) }
     ensures unfailed { OnOk result (output.new.calls.failed ≡ output.old.calls.failed) }
+    ensures out { OnOk result (output.old.calls.held ≡ false → output.new.calls.held ≡ false) }
     ensures fault { (words : List Text) → AskForData words task.now.age (option_map (λ text. text.now) task.now.ages) task.now.sends
         task.now.folder.path.now task.now.folder.sync (map (λ text. text.now) task.now.arguments.now)
         → IfErr result (λ why. IsFolderFault words (claims F.may_hold F.may_fail F.may_leave files.old files.new)
@@ -270,6 +275,7 @@ fn serve_tenants<
         → IfOk result (λ end. EndsServing end words (claims F.may_hold F.may_fail F.may_leave files.old files.new) telling
         (R.remaining input.old.reader) (R.remaining input.new.reader) (W.contents output.old.writer) (W.contents output.new.writer)) }
     ensures unfailed { OnOk result (output.new.calls.failed ≡ output.old.calls.failed) }
+    ensures out { OnOk result (output.new.calls.held ≡ false) }
     ensures fault { (words : List Text) → AskForServing words workers age (option_map (λ text. text.now) ages.entry)
         (option_map (λ path. path.now) journal.entry) telling (map (λ text. text.now) arguments.now)
         → IfErr result (λ why. IsServingFault words (claims F.may_hold F.may_fail F.may_leave files.old files.new) why
@@ -324,6 +330,7 @@ pub fn answer<
         (log_claims F.begun F.acts F.failed files.old files.new)
         (R.remaining input.old.reader) (R.remaining input.new.reader) (W.contents output.old.writer) (W.contents output.new.writer)) }
     ensures unfailed { OnOk result (output.new.calls.failed ≡ output.old.calls.failed) }
+    ensures out { OnOk result (output.old.calls.held ≡ false → output.new.calls.held ≡ false) }
     ensures fault { IfErr result (λ why. IsFaultOf (texts_of words.now) (claims F.may_hold F.may_fail F.may_leave files.old files.new)
         (log_claims F.begun F.acts F.failed files.old files.new) why
         (R.remaining input.old.reader) (R.remaining input.new.reader) input.new.lines
@@ -448,8 +455,9 @@ pub fn run_program<
     ensures files { ((path : Text) → ¬ AskForJournal (texts_of words.now) path)
         → ((folder : Text) → ¬ AskForFolder (texts_of words.now) folder) → files.new ≡ files.old }
 
-    // No call of the writer failed, and nothing was told then but what the words ask to tell.
+    // No call of the writer failed, what was written went out, and nothing was told then but what the words ask to tell.
     ensures unfailed { (result ≡ 0) ⊎ (result ≡ 3) → output.new.calls.failed ≡ output.old.calls.failed }
+    ensures out { (result ≡ 0) ⊎ (result ≡ 3) → output.old.calls.held ≡ false → output.new.calls.held ≡ false }
     ensures quiet { result ≡ 3 → Keeps (E.contents errors.old.writer) (E.contents errors.new.writer) }
 
     // The program failed, and told by what.

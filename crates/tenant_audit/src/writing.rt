@@ -1,12 +1,12 @@
 //! The journal of a silo, under the number of its version.
 
-ghost use Rattle.std.specs.Prelude.{◌≡◌, ℕ, List, [], All, None, IfOk};
-ghost use Rattle.std.specs.FinMap.{entries};
+ghost use Rattle.std.specs.Prelude.{◌≡◌, ℕ, List, All, None, IfOk};
 ghost use Rattle.journal_text.specs.JournalAnswers.{IsJournalText};
 ghost use Rattle.journal_text.specs.Rules.{AsksInRange};
 ghost use Rattle.journal_text.specs.Text.{journal_text};
 ghost use Rattle.grain_kinds.specs.Kinds.{logic_of};
 ghost use Rattle.audit_model.specs.Report.{IsFirstDifference};
+ghost use Rattle.silo_core.specs.Reopening.{OpensEmpty};
 ghost use Rattle.silo_journal.specs.SiloJournal.{journal_of};
 
 use grain_kinds::Version;
@@ -14,7 +14,7 @@ use grain_storage::GrainStorage;
 use silo_core::Silo;
 use std::alloc::{AllocError, Global};
 
-/// The text, in the newest form, of the journal of a silo that opened with no rows: the number of its
+/// The text, in the newest form, of the journal of a silo that opened empty: the number of its
 /// grains' logic, its age, the ages that kinds have of their own, its tenants with their limits, the steps
 /// that it took, its replies, and the rows that it holds.
 ///
@@ -25,7 +25,7 @@ pub fn write_journal<S: GrainStorage, L: Version>(
     alloc: Global,
     silo: &Silo<S, L>,
 ) -> Result<Vec<u8>, AllocError>
-    requires { entries silo.now.setup.rows ≡ [] }
+    requires { OpensEmpty silo.now.setup }
     ensures text { IfOk result (λ text. text.items ≡ journal_text (journal_of L.number silo.now)) }
 
     // It is read as that journal again, if each client asked under a number below 2^63.

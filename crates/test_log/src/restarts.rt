@@ -168,6 +168,67 @@ fn a_silo_starts_again_as_it_was(rt: HostRuntime) -> Result<(), Fail> {
     same(second.told.as_slice(), NEXT_TOLD)
 }
 
+/// A line that is no request, and so long that the log has its first 65,537 bytes.
+const LONG: usize = 65_600;
+
+/// So many of them are more than a silo has of history that needn't keep it.
+const MANY: usize = 260;
+
+static LONG_TOLD: &str = r#"{"error":11,"text":"line is too long"}
+"#;
+
+/// What is told for the lines, for so many long ones, and for the next, and how many steps the silo has of its history then.
+fn told_behind_long(alloc: Global, keeps: bool, lines: &[u8]) -> Result<(Vec<u8>, usize), Fail> {
+    let mut silo = new_silo(alloc)?;
+    if !keeps {
+        silo.drop_history();
+    }
+    if silo.is_stopped() {
+        return Err(Fail::from("the silo has stopped"));
+    }
+    let mut log = MemoryLog::new(alloc, None, NONE);
+    let written: Vec<u8> = Vec::new(alloc);
+    let mut output = Output::new(written);
+    let mut input = Input::with_capacity(alloc, lines, LONG)?;
+    let end = answer_logged(
+        alloc,
+        &mut input,
+        &mut output,
+        &mut log,
+        FIRST,
+        &mut silo,
+        10,
+    );
+    let steps = silo.journal().len();
+    drop(silo);
+    drop(log);
+    holds("all is answered", end.is_ok())?;
+    Ok((output.writer, steps))
+}
+
+#[test]
+fn a_silo_that_let_its_history_go_answers_as_ever(rt: HostRuntime) -> Result<(), Fail> {
+    let alloc = rt.alloc();
+    let mut lines: Vec<u8> = Vec::new(alloc);
+    lines.extend_from_slice(LINES.as_bytes())?;
+    let mut wanted = String::new(alloc);
+    wanted.push_str(TOLD)?;
+    for _ in 0..MANY {
+        for _ in 0..LONG {
+            lines.push(b'x')?;
+        }
+        lines.push(b'\n')?;
+        wanted.push_str(LONG_TOLD)?;
+    }
+    lines.extend_from_slice(NEXT.as_bytes())?;
+    wanted.push_str(NEXT_TOLD)?;
+    let (all, steps) = told_behind_long(alloc, true, lines.as_slice())?;
+    same(all.as_slice(), wanted.as_str())?;
+    let (left, last) = told_behind_long(alloc, false, lines.as_slice())?;
+    same(left.as_slice(), wanted.as_str())?;
+    holds("the last line's steps alone", last < steps && last < 4)
+}
+
 /// Whether what was told is the beginning of all that is told, and the log that is left has the lines of it; of the first six lines
 /// five are told a line.
 fn is_kept(alloc: Global, left: &Left) -> Result<bool, Fail> {

@@ -2,12 +2,41 @@
 
 use silo_program::{DataFiles, Input, MemoryFile, Output, WholeFiles, run_program};
 use std::alloc::Global;
+use std::io::{self, Write};
 use std::random::RandomSource;
 use std::sync::Wait;
 use std::test::Fail;
 use std::thread::Threads;
 
-/// What a run leaves: its status, and what stands in the output and the errors.
+/// Keeps back what is written until it is flushed.
+#[derive(Drop)]
+struct HoldingWriter {
+    held: Vec<u8>,
+    out: Vec<u8>,
+}
+
+impl Write for HoldingWriter {
+    fn write(&mut self, bytes: &[u8]) -> io::Result<usize> {
+        self.held.extend_from_slice(bytes)?;
+        Ok(bytes.len())
+    }
+
+    fn flush(&mut self) -> io::Result<()> {
+        self.out.extend_from_slice(self.held.as_slice())?;
+        self.held.clear();
+        Ok(())
+    }
+}
+
+/// Nothing was written.
+fn holding(alloc: Global) -> Output<HoldingWriter> {
+    Output::new(HoldingWriter {
+        held: Vec::new(alloc),
+        out: Vec::new(alloc),
+    })
+}
+
+/// What a run leaves: its status, and what went out to the output and the errors.
 #[derive(Drop)]
 pub struct Left {
     pub status: u8,
@@ -41,12 +70,12 @@ pub fn left_by<H: AllocGlobal + RandomSource + Threads + Wait + Sync, F: WholeFi
     let alloc = rt.alloc();
     let words = words_of(alloc, words)?;
     let mut input = Input::new(alloc, input.as_bytes())?;
-    let mut output = Output::new(Vec::new(alloc));
-    let mut errors = Output::new(Vec::new(alloc));
+    let mut output = holding(alloc);
+    let mut errors = holding(alloc);
     let status = run_program(rt, &words, files, &mut input, &mut output, &mut errors);
     Ok(Left {
         status,
-        output: output.writer,
-        errors: errors.writer,
+        output: output.writer.out,
+        errors: errors.writer.out,
     })
 }

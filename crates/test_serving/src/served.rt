@@ -14,10 +14,10 @@ use test_helpers::setups::setup_of;
 use test_helpers::verdicts::holds;
 use worker_host::{FreeGate, Lane, ServeReport, distinct, serve};
 
-/// The text of the journal of a silo that opened with no rows.
+/// The text of the journal of a silo that opened empty.
 fn written(alloc: Global, silo: &Silo<FusedStorage, Kinds>) -> Result<Vec<u8>, Fail> {
-    if !silo.opening().is_empty() {
-        return Err("it opened with rows".into());
+    if !silo.opens_empty() {
+        return Err("it didn't open empty".into());
     }
     Ok(write_journal(alloc, silo)?)
 }

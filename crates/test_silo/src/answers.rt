@@ -3,6 +3,7 @@
 //! Any of these tests may be refused its memory: it passes all the same, or says so.
 
 mod answered;
+mod dropping;
 mod rows;
 mod silos;
 mod steps;

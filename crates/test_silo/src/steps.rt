@@ -7,6 +7,7 @@ mod arenas;
 mod at_once;
 mod methods;
 mod refusals;
+mod reopening;
 mod rows;
 mod silos;
 mod strangers;

@@ -17,7 +17,7 @@ use Rattle.silo_event.specs.declared.step.Answer.TheVariants.{Done, Failed, NotN
 use Rattle.silo_event.specs.declared.step.StepFault.{StepFault}
 use Rattle.silo_event.specs.declared.step.StepFault.TheVariants.{Memory, Stranger}
 use Rattle.silo_model.specs.Journal.{LeadsTo}
-use Rattle.silo_model.specs.Opening.{Setup, opening}
+use Rattle.silo_model.specs.Opening.{Setup, nothing_kept, opening}
 use Rattle.silo_model.specs.Pending.{has_pending}
 use Rattle.silo_model.specs.Whole.{Whole, shown_to}
 use Rattle.silo_model.proofs.Journals.{journals_begin, journals_grow}
@@ -45,6 +45,7 @@ module _ {S : Type 0} (logic : Logic) (old new : History) (owing : IndexMap Clie
       (record {
         leads = had.leads;
         paced = had.paced;
+        new = had.new;
         within = had.within;
         owed = λ client. ap (λ n. n + length (ids_told client (take seen old.whole.replies))) (same client) ∙ had.owed client;
       })
@@ -59,6 +60,7 @@ module _ {S : Type 0} (logic : Logic) (old new : History) (owing : IndexMap Clie
             subst (λ (setup : Setup). LeadsTo logic setup new.journal new.whole) (sym step.setup)
             (subst (λ (journal : List Step). LeadsTo logic old.setup journal new.whole) (sym step.journal) (journals_grow logic old.setup old.journal old.whole new.whole s had.leads step.whole));
         paced = paced;
+        new = ap (λ (setup : Setup). setup.kept) step.setup ∙ had.new;
         within = within_more seen old.whole.replies parts.added new.whole.replies parts.replies had.within;
         owed = λ client.
             subst (λ (replies : List Reply). owing_to after client + length (ids_told client (take seen replies)) ≡ length (ids_asked client new.journal)) (sym parts.replies)
@@ -137,6 +139,7 @@ module _ {S : Type 0} (logic : Logic) (law : ReadersAskNothing logic) (h : Histo
   working_seen after less = record {
     leads = had.leads;
     paced = had.paced;
+    new = had.new;
     within = omega arith;
     owed = λ client.
         ap (λ (replies : List Reply). owing_to after client + length (ids_told client replies)) (take-length h.whole.replies)
@@ -167,11 +170,12 @@ module _ {S : Type 0} (logic : Logic) (law : ReadersAskNothing logic) (h : Histo
 
 -- ---- where a silo opens
 
-pub working_at_opening : {S : Type 0} (logic : Logic) (h : History) (owing : IndexMap Client Owed S) → h.whole ≡ opening h.setup → h.journal ≡ [] → ((client : Client) → owing_to owing client ≡ 0) → IsWorking logic h owing 0
+pub working_at_opening : {S : Type 0} (logic : Logic) (h : History) (owing : IndexMap Client Owed S) → h.whole ≡ opening h.setup → h.journal ≡ [] → h.setup.kept ≡ nothing_kept → ((client : Client) → owing_to owing client ≡ 0) → IsWorking logic h owing 0
 unfolding opening
-working_at_opening logic h owing opens none nobody = record {
+working_at_opening logic h owing opens none fresh nobody = record {
   leads = subst (λ (j : List Step). LeadsTo logic h.setup j h.whole) (sym none) (subst (λ (w : Whole). LeadsTo logic h.setup [] w) (sym opens) (journals_begin logic h.setup));
   paced = ap (is_paced logic h.setup) none;
+  new = fresh;
   within = omega arith;
   owed = λ client.
       let asked : length (ids_asked client h.journal) ≡ 0 = ap (λ (j : List Step). length (ids_asked client j)) none in

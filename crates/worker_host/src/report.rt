@@ -157,7 +157,6 @@ fn served_answers<S: GrainStorage, L: GrainLogic>(
     requires paced { is_paced L.logic silo.now.setup silo.now.journal ≡ true }
     requires quiet { AllQuiet silo.now.whole }
     ensures opened { OnOk result (IsOpenedSo opened.now silo.now) }
-    ensures new { OnOk result (silo.now.setup.kept ≡ nothing_kept) }
     ensures served { IfOk result (λ answers. AreServed L.logic silo.now.setup lanes.now silo.now.journal silo.now.whole
         silo.now.failures.at_opening silo.now.failures.now (map_list (λ v. v.items) answers.items)) }
 {

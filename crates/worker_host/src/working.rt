@@ -2,7 +2,7 @@
 
 ghost use Rattle.std.specs.Prelude.{◌≡◌, ◌-◌, [], true, false, IfOk};
 ghost use Rattle.grain_id.specs.Names.{Client};
-ghost use Rattle.silo_model.specs.Opening.{new_setup, opening};
+ghost use Rattle.silo_model.specs.Opening.{new_setup, nothing_kept, opening};
 ghost use Rattle.lane_model.specs.Asking.{asker_of};
 ghost use Rattle.lane_model.specs.Pacing.{is_paced};
 ghost use Rattle.silo_core.specs.History.{Answered};
@@ -22,7 +22,7 @@ use std::alloc::{AllocError, Global};
 use std::collections::VecDeque;
 use std::marker::Model;
 
-/// A silo with how many answers each client is owed, as far as its replies were looked at. Just before
+/// A silo that was new as it opened, with how many answers each client is owed, as far as its replies were looked at. Just before
 /// each step of its journal by which a client asks, no request of the client waits or is open.
 #[derive(Drop)]
 pub struct WorkingSilo<S: GrainStorage, L: GrainLogic> {
@@ -151,6 +151,7 @@ impl<S: GrainStorage, L: GrainLogic> WorkingSilo<S, L> {
     pub fn into_silo(self) -> Silo<S, L>
         ensures same { result ≡ self }
         ensures paced { is_paced L.logic result.setup result.journal ≡ true }
+        ensures new { result.setup.kept ≡ nothing_kept }
     {
         let WorkingSilo { silo, .. } = self;
         silo

@@ -5,7 +5,7 @@ from __future__ import annotations
 import asyncio
 import functools
 import math
-from typing import Any, Awaitable, Callable, List, Mapping, Optional
+from typing import Any, Awaitable, Callable, Generator, List, Mapping, Optional
 
 from silo.again import REFUSED
 from silo.aio.stream import Answer, Carried, Stream
@@ -31,7 +31,7 @@ async def reached(address: str, tenant: Optional[str], token: Optional[str], sec
 class Silo:
     """A silo that runs `silo answer` over these tenants; its words are those of `silo.Silo`.
 
-    It begins with `async with`, or with `await start()`, and then belongs to that event loop: only its tasks may use it.
+    It begins with `async with`, or where it is awaited, and then belongs to that event loop: only its tasks may use it.
     `on_told` is called by the loop. A timeout comes up to a twentieth of a second late.
     """
 
@@ -88,6 +88,9 @@ class Silo:
         self._stream = Stream(await self._carry(), self._on_told)
         await self._stream.open()
         return self
+
+    def __await__(self) -> Generator[Any, None, Silo]:
+        return self.start().__await__()
 
     async def __aenter__(self) -> Silo:
         return await self.start()

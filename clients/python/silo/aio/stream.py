@@ -10,6 +10,7 @@ from silo.connection import MOST_SECONDS_DEAF, Carrier
 from silo.errors import SiloTimeout
 from silo.exchange import Exchange
 from silo.forks import LEFT, leave_in_children
+from silo.process import read_less
 from silo.sockets import SocketEnd
 
 # how often it is looked for what wasn't answered in time
@@ -56,8 +57,10 @@ class Stream(asyncio.Protocol):
             self.carrier.socket.setblocking(False)
             # one transport for both ways
             self._writing, _ = await self._loop.create_connection(functools.partial(Both, self), sock=self.carrier.socket)
+            read_less(self._writing)
             return
-        await self._loop.connect_read_pipe(lambda: self, self.carrier.reading)
+        reading, _ = await self._loop.connect_read_pipe(lambda: self, self.carrier.reading)
+        read_less(reading)
         self._writing, _ = await self._loop.connect_write_pipe(functools.partial(Writing, self), self.carrier.writing)
         # what was asked before is written now
         self._flush()

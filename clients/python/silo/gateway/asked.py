@@ -4,20 +4,19 @@ from __future__ import annotations
 
 import json
 import re
-from typing import Any, Dict, Iterator, List, NamedTuple, Optional, Sequence, Tuple
+from typing import Any, Dict, List, NamedTuple, Sequence, Tuple
 
-from silo.gateway.pieces import TOO_LONG
 from silo.gateway.told import LONG, NOT_NOW, REFUSED, other_tenant
 from silo.lines import FENCE, MOST_BYTES
 from silo.names import WORD
 from silo.strict import read_step
 
 WORD_BYTES = WORD.encode()
-# what stands between the caller and the number, in a request as clients write it and in its reply
-MIDST = b'","id":'
+# what stands between the caller and the number, and behind that, in a request as clients write it and in its reply
+MIDST, END = b'","id":', b","
 # what might say one of these once more: then the line is read as a whole, since the last counts
 ONCE = (b'"from"', b'"id"', b'"op"')
-ESCAPE = b"\\u"
+BACKSLASH, ESCAPE = b"\\", b"\\u"
 STEPS = ("tick", "sweep")
 
 
@@ -28,23 +27,28 @@ class Block(NamedTuple):
     """
 
     given: bytes
-    # the caller and the number of each request, with what stands between them
+    # the caller and the number of each request, with what stands between them and behind
     keys: Sequence[bytes]
     instead: bytes = b""
     # a tick or a sweep, which may be answered by 'not now' before its fence is
     is_step: bool = False
 
+    def parted(self, count: int) -> Tuple[Block, Block]:
+        """The first so many of its requests, and the others."""
+        rest = self.given.split(b"\n", count)[count]
+        return Block(self.given[: len(self.given) - len(rest)], self.keys[:count]), Block(rest, self.keys[count:])
+
 
 def request(head: bytes, caller: bytes, number: bytes, rest: bytes) -> Block:
     """One request; `head` is what stands before its caller, and `rest` what stands behind its number."""
     key = caller + MIDST + number
-    return Block(b"%b%b%b\n" % (head, key, rest), (key,))
+    return Block(b"%b%b%b\n" % (head, key, rest), (key + END,))
 
 
 def asked_by(key: bytes) -> Tuple[bytes, bytes]:
     """The caller and the number of a key."""
     caller, _, number = key.partition(MIDST)
-    return caller, number
+    return caller, number[: -len(END)]
 
 
 def answered(instead: bytes) -> Block:
@@ -62,27 +66,21 @@ class Reader:
     def __init__(self, tenant: str) -> None:
         self._tenant = tenant
         # a request as clients write it, with its caller and its number first; what is behind may be anything
-        head = rb'^\{"op":"(?:call|poke|status)","from":"(%b/%b","id":(?:0|[1-9][0-9]{0,17}))[,}].*\n'
+        head = rb'^\{"op":"(?:call|poke|status)","from":"(%b/%b","id":(?:0|[1-9][0-9]{0,17}),).*\n'
         self._plain = re.compile(head % (tenant.encode() or WORD_BYTES, WORD_BYTES), re.MULTILINE)
 
-    def read(self, lines: List[bytes]) -> Iterator[Block]:
-        """Blocks for these lines: one if all are written as clients write them, else one for each."""
-        given = b"\n".join(lines) + b"\n"
-        keys = self._plain.findall(given)
-        if len(keys) == len(lines) and is_said_once(given, len(lines)):
-            yield Block(given, keys)
-            return
-        for line in lines:
-            yield self.read_line(line)
+    def keys_of(self, lines: bytes) -> Sequence[bytes]:
+        """The keys of whole lines, if each is a request as clients write it; else none."""
+        keys = self._plain.findall(lines)
+        return keys if len(lines) <= MOST_BYTES and lines.count(b"\n") == len(keys) and is_said_once(lines, len(keys)) else ()
 
     def read_line(self, line: bytes) -> Block:
-        if line == TOO_LONG:
+        """A line without its LF."""
+        if len(line) > MOST_BYTES:
             return answered(LONG)
         given = line + b"\n"
         found = self._plain.match(given)
-        if found is not None and is_said_once(given, 1):
-            return Block(given, (found[1],))
-        return self._read_odd_line(line)
+        return Block(given, (found[1],)) if found is not None and is_said_once(given, 1) else self._read_odd_line(line)
 
     def _read_odd_line(self, line: bytes) -> Block:
         """The same of a line in any other form. It is written anew, so that the program reads in it what was read here."""
@@ -102,7 +100,8 @@ class Reader:
 
 def is_said_once(given: bytes, count: int) -> bool:
     """Whether so many lines, each of which has these members in its head, have none of them once more."""
-    return ESCAPE not in given and all([given.count(word) == count for word in ONCE])
+    # one byte is looked for more quickly than two
+    return (BACKSLASH not in given or ESCAPE not in given) and all([given.count(word) == count for word in ONCE])
 
 
 def written_anew(said: Dict[str, Any]) -> Tuple[bytes, bytes, bytes, bytes]:

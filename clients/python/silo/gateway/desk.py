@@ -23,7 +23,8 @@ SECONDS_OF_READING = 0.000_03
 # how long lines are read before connections are looked at again
 MOST_SECONDS_AT_ONCE = 0.002
 NOTHING = (0, 0)
-# how a reply begins that says a code, of two digits
+# how an answer begins behind the line before, up to its key; and a reply that says a code, of two digits
+ANSWER = b'\n{"from":"'
 FAULT = b'{"error":'
 # the operator's tenant
 OPERATOR = ""
@@ -185,18 +186,14 @@ class Desk:
     def _take_turn(self, lane: Lane, guest: Guest, given: List[bytes], until: float) -> bool:
         """Adds what a connection is given in its turn; true if reading that took too long."""
         share = min(lane.most_written, LINES_OF_A_ROUND // (1 + len(self._turns))) // (1 + lane.guests_in_turn)
-        room = min(lane.most_written - lane.written, MOST_WRITTEN - self._written)
-        lines, since = guest.next_lines(max(1, min(share, room)))
-        at = 0
-        for block in lane.reader.read(lines):
-            count = len(block.keys) or 1
-            length = sum(map(len, lines[at : at + count]))
+        most = max(1, min(share, lane.most_written - lane.written, MOST_WRITTEN - self._written))
+        while most > 0 and guest.waiting:
+            block, since, length = guest.next_block(most)
             given.append(self._put(Asked(guest, lane, block, since, length)))
-            at += count
+            most -= len(block.keys) or 1
             if time.monotonic() >= until:
-                break
-        guest.take_lines(at)
-        return at < len(lines) or time.monotonic() >= until
+                return True
+        return False
 
     def _fill_later(self) -> None:
         if not self._is_later:
@@ -240,19 +237,48 @@ class Desk:
         self.fill()
 
     def _weigh(self, seconds: float, now: float) -> None:
-        """Shares out what the program has worked among the lines that it answered, by what their tenants' lines cost of late.
+        """Shares out what the program has worked among the lines that it answered, by what is known of their tenants' lines.
 
         A sweep may take long, so where the gateway has asked too, no tenant is held to have.
         """
-        whole = sum([lane.weight * count for lane, (count, _) in self._answered.items()])
         if self.own in self._answered:
             seconds = 0.0
-        for lane, (_, longest) in self._answered.items():
-            lane.weigh(seconds * lane.weight / whole, longest, now)
+        lanes = [(lane, lane.costs.weight, *found) for lane, found in self._answered.items()]
+        whole = sum([weight * count for _, weight, count, _ in lanes])
+        for lane, weight, count, longest in lanes:
+            lane.weigh(count, seconds * weight / whole, longest, now)
+            if len(lanes) == 1:
+                lane.costs.note_alone(seconds / count)
         self._answered.clear()
 
     def _take(self, whole: bytes, now: float) -> None:
-        """Takes whole lines: together what answers requests of one block, and anything else by itself."""
+        """Takes whole lines."""
+        rest = self._take_answers(whole, now)
+        if rest:
+            self._take_any(rest, now)
+
+    def _take_answers(self, whole: bytes, now: float) -> bytes:
+        """Takes what answers whole blocks or their first requests, as long as nothing else comes; gives what is left.
+
+        No line has an LF in it, so what begins as an answer does behind one is a line, and its key is whose answer it is.
+        """
+        answers = (b"\n" + whole[:-1]).split(ANSWER)
+        at, place = 1, 0
+        if answers[0] or len(answers) != whole.count(b"\n") + 1:
+            return whole
+        while at < len(answers) and self._asked and self._asked[0].keys:
+            asked = self._asked[0]
+            found = answers[at : at + asked.left]
+            if not all(map(bytes.startswith, found, asked.keys[asked.at :])):
+                break
+            lengths = [*map(len, found)]
+            end = place + sum(lengths) + len(ANSWER) * len(found)
+            self._tell(asked, len(found), whole[place:end], max(lengths), now)
+            at, place = at + len(found), end
+        return whole[place:]
+
+    def _take_any(self, whole: bytes, now: float) -> None:
+        """The same of lines of which some are no answers, or tell faults: together what answers requests of one block."""
         lines, keys = whole.split(b"\n"), keys_of(whole)
         at = 0
         while at < len(keys):
@@ -266,7 +292,7 @@ class Desk:
             count = agreeing(keys[at : at + asked.left], asked.keys[asked.at :])
             if not count:
                 raise StrangeReply(f"{lines[at][:80]!r} answers another request than the oldest")
-            self._tell(asked, lines[at : at + count], now)
+            self._tell_lines(asked, lines[at : at + count], now)
             at += count
 
     def _take_odd_line(self, line: bytes, now: float) -> None:
@@ -280,24 +306,27 @@ class Desk:
         asked = self._asked[0]
         if says_no_request(line):
             # the program takes the line for no request, which is said to it as it came
-            self._tell(asked, [line] if asked.keys else asked.block.instead.splitlines(), now)
+            self._tell_lines(asked, [line] if asked.keys else asked.block.instead.splitlines(), now)
         elif line == NOT_NOW_LINE and asked.block.is_step:
             self._hand(asked.asker, NOT_NOW)
         else:
             raise StrangeReply(f"{line[:80]!r} is no reply to the oldest")
 
-    def _tell(self, asked: Asked, replies: List[bytes], now: float) -> None:
+    def _tell_lines(self, asked: Asked, replies: List[bytes], now: float) -> None:
         """Tells replies to the oldest lines of the oldest block: to one line, if it is a fence."""
-        count = len(replies) if asked.keys else 1
-        if replies:
-            told = b"\n".join(replies) + b"\n"
+        told = b"\n".join([*replies, b""])
+        if FAULT in told:
+            count_faults(asked.lane, replies)
+        self._tell(asked, len(replies) if asked.keys else 1, told, max(map(len, replies), default=0), now)
+
+    def _tell(self, asked: Asked, count: int, told: bytes, longest: int, now: float) -> None:
+        """Tells the replies to so many lines, of which one has the most bytes."""
+        if told:
             self._hand(asked.asker, told)
-            if FAULT in told:
-                count_faults(asked.lane, replies)
         if asked.keys:
             asked.lane.latency.note(now - asked.since, count)
-        found, longest = self._answered.get(asked.lane, NOTHING)
-        self._answered[asked.lane] = (found + count, max(longest, max(map(len, replies), default=0)))
+        found, longest_found = self._answered.get(asked.lane, NOTHING)
+        self._answered[asked.lane] = (found + count, max(longest, longest_found))
         self._last = asked
         if count == asked.left:
             self._asked.popleft()

@@ -6,8 +6,9 @@ import asyncio
 import collections
 import contextlib
 import time
-from typing import TYPE_CHECKING, Callable, Deque, List, Optional, Tuple
+from typing import TYPE_CHECKING, Callable, Deque, List, Optional, Tuple, Union
 
+from silo.gateway.asked import Block
 from silo.gateway.log import tell_of_others
 from silo.gateway.pieces import Pieces
 
@@ -27,15 +28,6 @@ MOST_SECONDS_DEAF, MOST_SECONDS_IN_THE_WAY = 60.0, 2.0
 ROOM = memoryview(bytearray(MOST_AT_ONCE))
 
 
-class Read:
-    """Lines that came by one read, and which of them is the next."""
-
-    __slots__ = ("lines", "since", "at")
-
-    def __init__(self, lines: List[bytes], since: float) -> None:
-        self.lines, self.since, self.at = lines, since, 0
-
-
 class Guest(asyncio.BufferedProtocol):
     """Reads lines, keeps them until their turn comes, and writes what is told. It isn't read while it has too much under way."""
 
@@ -45,8 +37,8 @@ class Guest(asyncio.BufferedProtocol):
         self.lane = lane
         self._most = most
         self._on_lines, self._on_gone, self._on_last = on_lines, on_gone, on_last
-        # lines that wait, by the reads that brought them, and when that was
-        self.waiting: Deque[Read] = collections.deque()
+        # what each read brought that waits, and when that was: a block if all lines are as clients write them, else the lines, the last one first
+        self.waiting: Deque[Tuple[Union[Block, List[bytes]], float]] = collections.deque()
         # lines and bytes that were read and aren't answered yet
         self.held = self.held_bytes = 0
         self.is_in_turn = False
@@ -113,17 +105,19 @@ class Guest(asyncio.BufferedProtocol):
         """Whether lines of it may be given to the program: not while it leaves too many replies unread."""
         return bool(self.waiting) and not self._is_deaf
 
-    def next_lines(self, most: int) -> Tuple[List[bytes], float]:
-        """The next lines that wait, at most so many, of those that came by one read; and when that was."""
-        read = self.waiting[0]
-        return read.lines[read.at : read.at + most], read.since
-
-    def take_lines(self, count: int) -> None:
-        """The first of them wait no longer."""
-        read = self.waiting[0]
-        read.at += count
-        if read.at == len(read.lines):
-            self.waiting.popleft()
+    def next_block(self, most: int) -> Tuple[Block, float, int]:
+        """Takes what waits longest, of at most so many lines, when it was read, and how many bytes are held for it."""
+        asked, since = self.waiting.popleft()
+        rest: Union[Block, List[bytes]] = []
+        if isinstance(asked, list):
+            line, rest = asked.pop(), asked
+            block, length = self.lane.reader.read_line(line), len(line)
+        else:
+            block, rest = asked.parted(most) if len(asked.keys) > most else (asked, rest)
+            length = len(block.given)
+        if rest:
+            self.waiting.appendleft((rest, since))
+        return block, since, length
 
     def tell(self, replies: bytes) -> None:
         """Keeps what it is told until `flush`."""
@@ -175,14 +169,23 @@ class Guest(asyncio.BufferedProtocol):
         if self._transport is not None:
             self._transport.abort()
 
-    def _hold(self, lines: List[bytes]) -> None:
-        if not lines:
+    def _hold(self, whole: bytes) -> None:
+        """Keeps whole lines until their turn comes. A line of no bytes is passed over."""
+        if not whole:
             return
-        length = sum(map(len, lines))
-        self.waiting.append(Read(lines, time.monotonic()))
-        self.held += len(lines)
+        now, keys = time.monotonic(), self.lane.reader.keys_of(whole)
+        if keys:
+            self.waiting.append((Block(whole, keys), now))
+            count, length = len(keys), len(whole)
+        else:
+            lines = [line for line in reversed(whole.split(b"\n")) if line]
+            if not lines:
+                return
+            self.waiting.append((lines, now))
+            count, length = len(lines), sum(map(len, lines))
+        self.held += count
         self.held_bytes += length
-        self.lane.hold(len(lines), length)
+        self.lane.hold(count, length)
         self._on_lines(self)
 
     def _resume(self) -> None:

@@ -8,7 +8,7 @@ from typing import Callable, List, Optional, Tuple
 
 from silo.gateway.desk import Desk
 from silo.gateway.log import tell
-from silo.process import Process
+from silo.process import Process, read_less
 
 # how long a program may owe an answer before it is killed
 MOST_SECONDS_DEAF = 60.0
@@ -40,6 +40,7 @@ class Life(asyncio.Protocol):
 
     async def begin(self) -> None:
         self._reading, _ = await self._loop.connect_read_pipe(lambda: self, self._process.reading)
+        read_less(self._reading)
         self._writing, _ = await self._loop.connect_write_pipe(asyncio.BaseProtocol, self._process.writing)
 
     def write(self, lines: bytes) -> None:

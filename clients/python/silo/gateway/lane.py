@@ -3,6 +3,7 @@
 from __future__ import annotations
 
 import collections
+import itertools
 import time
 from typing import Deque, Dict, Optional, Set
 
@@ -11,12 +12,56 @@ from silo.gateway.figures import Histogram
 from silo.gateway.guest import Guest
 
 # how many lines of a tenant the program is given before it has answered them, at most, and of one of which nothing is known
-MOST_WRITTEN, MOST_AT_FIRST = 256, 64
-# and how much they may be, by what the tenant's dearest line of late took: so long, and so many bytes of replies
+MOST_WRITTEN, MOST_AT_FIRST = 256, 8
+# and how much they may be: so long, and so many bytes of replies
 BUDGET_SECONDS = 0.002
 BUDGET_BYTES = 1_048_576
-# in how long a dear line counts for half as much: long, or else lines that cost little between bursts of dear ones would hide these
-HALF_LIFE = 1.0
+# how long a tenant's costly lines have to take together before they count: any line looks costly if the system stops the program within it
+COSTLY_SECONDS = 0.02
+# in how long they count for half as much, and a long reply
+HALF_LIFE = 2.0
+# as often a tenant's times are made less, in seconds
+SECONDS_OF_A_TERM = 0.1
+# what a line is taken to take at least
+LEAST_SECONDS = 0.000_002
+
+
+class Costs:
+    """How many lines of a tenant the program may be given, by how long its lines took of late."""
+
+    def __init__(self) -> None:
+        # how long they took, by the bits of the number of such lines that the budget has room for
+        self._took = [0.0] * (MOST_WRITTEN.bit_length() + 1)
+        self._term = time.monotonic()
+        self.most = MOST_AT_FIRST
+        # what a line takes by itself, as far as that is known
+        self._seconds = LEAST_SECONDS
+
+    @property
+    def weight(self) -> float:
+        """How much one of its lines may have taken of what was answered with lines of others."""
+        return self._seconds / self.most
+
+    def note_alone(self, seconds: float) -> None:
+        """A line took so long by itself. It may have been stopped within, so it counts for twice the one before at most."""
+        self._seconds = max(LEAST_SECONDS, min(seconds, 2 * self._seconds))
+
+    def note(self, count: int, seconds: float, now: float) -> None:
+        """So many lines took so long each."""
+        room = min(MOST_WRITTEN, int(BUDGET_SECONDS / max(seconds, 1e-9)))
+        if room == self.most == MOST_WRITTEN:
+            return
+        if now >= self._term + SECONDS_OF_A_TERM:
+            part = 0.5 ** ((now - self._term) / HALF_LIFE)
+            self._took = [took * part for took in self._took]
+            self._term = now
+        if room < MOST_WRITTEN:
+            self._took[room.bit_length()] += count * seconds
+        costly = itertools.accumulate(self._took)
+        # the least room of which, and of less, there was enough to count
+        most = next((1 << bits >> 1 or 1 for bits, took in enumerate(costly) if took >= COSTLY_SECONDS), MOST_WRITTEN)
+        # what cost little may be followed by more of it, step by step
+        self.most = min(most, 2 * self.most if room > self.most else self.most)
 
 
 class Lane:
@@ -34,9 +79,9 @@ class Lane:
         self.is_in_turn = False
         # lines and bytes that were read and aren't answered yet; those lines that the program was given
         self.held = self.held_bytes = self.written = 0
-        # as how much of the budget the next line counts, since when, and how many lines the program may be given by that
-        self.weight, self._weighed_at, self.most_written = 1 / MOST_AT_FIRST, time.monotonic(), MOST_AT_FIRST
-        self._is_weighed = False
+        self.costs = Costs()
+        # the bytes of a reply that counts, since when, and how many lines the program may be given by that and by what lines cost
+        self._longest, self._longest_at, self.most_written = 1.0, time.monotonic(), MOST_AT_FIRST
         self.requests = self.told = self.lost = 0
         self.refusals: Dict[str, int] = collections.Counter()
         self.latency = Histogram()
@@ -90,9 +135,9 @@ class Lane:
     def stop(self, guest: Guest) -> None:
         self._stopped[guest] = None
 
-    def weigh(self, seconds: float, length: int, now: float) -> None:
-        """Lines took so long each, and the longest of their replies is so long."""
-        old = self.weight * 0.5 ** ((now - self._weighed_at) / HALF_LIFE) if self._is_weighed else 0.0
-        self.weight = max(seconds / BUDGET_SECONDS, length / BUDGET_BYTES, old, 1e-6)
-        self._weighed_at, self._is_weighed = now, True
-        self.most_written = max(1, min(MOST_WRITTEN, int(1 / self.weight)))
+    def weigh(self, count: int, seconds: float, length: int, now: float) -> None:
+        """So many lines took so long each, and the longest of their replies is so long."""
+        self.costs.note(count, seconds, now)
+        self._longest = max(length, self._longest * 0.5 ** ((now - self._longest_at) / HALF_LIFE), 1.0)
+        self._longest_at = now
+        self.most_written = max(1, min(self.costs.most, int(BUDGET_BYTES / self._longest)))

@@ -9,7 +9,7 @@ from silo.gateway.asked import WORD_BYTES
 from silo.gateway.told import NOT_NOW
 
 # each line, and its key if it answers a request; members ascend, so what tells whose it is stands before all that grains and callers chose
-LINES = re.compile(rb'^(?:\{(?:"error":[0-9]{1,3},)?"from":"(%b/%b","id":[0-9]{1,19}),"(?:ok|text)":)?.*\n' % (WORD_BYTES, WORD_BYTES), re.MULTILINE)
+LINES = re.compile(rb'^(?:\{(?:"error":[0-9]{1,3},)?"from":"(%b/%b","id":[0-9]{1,19},)"(?:ok|text)":)?.*\n' % (WORD_BYTES, WORD_BYTES), re.MULTILINE)
 TOLD = re.compile(rb'\{(?:"error":[0-9]{1,3},)?"from":"%b/(%b):' % (WORD_BYTES, WORD_BYTES))
 UNNUMBERED = re.compile(rb'\{"error":[0-9]{1,3},"text":')
 NOT_NOW_LINE = NOT_NOW[:-1]

@@ -1,10 +1,11 @@
 -- What a start of a log comes to, and its parts.
-use Rattle.std.specs.Prelude.{◌≡◌, ◌++◌, ℕ, ◌+◌, List, [], Option, Some}
+use Rattle.std.specs.Prelude.{◌≡◌, ◌++◌, ℕ, ◌+◌, Bool, List, [], Option, Some}
 use Rattle.silo_model.specs.Opening.{opening}
 use Rattle.silo_core.specs.History.{History}
 use Rattle.log_text.specs.Head.{first_sum, head_text, name_of}
 use Rattle.log_host.specs.Laws.{restarted}
 use Rattle.log_host.specs.declared.place.LogPlace.{LogPlace}
+use Rattle.log_answer.specs.Answers.{HasLeft}
 use Rattle.log_answer.specs.Runs.{GoesOn}
 use Rattle.log_answer.specs.declared.running.LogFault.{LogFault}
 use Rattle.log_answer.specs.declared.running.LogFault.TheVariants as log_fault
@@ -20,12 +21,14 @@ use Rattle.data_command.specs.Words.{head_words}
 use Rattle.data_command.specs.declared.fault.DataFault.{DataFault}
 use Rattle.data_command.specs.declared.fault.DataFault.TheVariants as data_fault
 
--- The silo is where the lines lead that were found, and the log goes on at this place. It has the batches that were found behind its
--- head, and nothing behind them; nothing was done to it since.
-pub record IsStarted (start : Start) (sends : ℕ) (log : LogClaims) (place : LogPlace) (silo : History) : Type 0 where
+-- Of the history to which the lines lead that were found the silo has what is left, and the log goes on at this place. It has the batches
+-- that were found behind its head, and nothing behind them; nothing was done to it since.
+pub record IsStarted (keeps : Bool) (start : Start) (sends : ℕ) (log : LogClaims) (place : LogPlace) (silo : History) : Type 0 where
   pub found : Option (List ℕ)
   pub was : IsFound log found
-  pub starts : StartsFrom start sends found silo
+  pub all : History
+  pub has : HasLeft keeps all silo
+  pub starts : StartsFrom start sends found all
   pub named : place.name ≡ name_of starts.number
   pub goes_on : GoesOn start.version.logic sends (opening start.setup) (first_sum (head_words start sends) starts.number) place
       (restarted (data_log start sends starts.number) starts.bytes) silo.whole

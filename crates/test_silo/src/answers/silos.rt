@@ -74,6 +74,20 @@ pub fn sweep(alloc: Global, silo: &mut TestedSilo) -> Result<bool, Fail> {
     Ok(silo.answer(alloc, Step::Sweep, 0)?)
 }
 
+/// Notes that a line had so many bytes.
+pub fn note(alloc: Global, silo: &mut TestedSilo, bytes: usize) {
+    silo.note(alloc, bytes);
+}
+
+/// From now on the silo keeps no history.
+pub fn drop_history(silo: &mut TestedSilo) {
+    silo.drop_history();
+}
+
+pub fn keeps_history(silo: &TestedSilo) -> bool {
+    silo.keeps_history()
+}
+
 pub fn replies(silo: &TestedSilo) -> &[Reply] {
     silo.replies()
 }

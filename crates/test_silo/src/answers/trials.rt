@@ -1,6 +1,7 @@
 //! The silos of these tests: each is made, tried and let go in one function, whatever is tried.
 
 use crate::answers::answered::is_answered;
+use crate::answers::dropping::is_dropped;
 use crate::answers::rows::Worked;
 use crate::answers::silos::{TestedSilo, alone, new_silo, taken_alone};
 use crate::answers::steps::is_asked;
@@ -20,6 +21,8 @@ pub enum Trial {
     Empty(u64),
     /// Steps are answered one by one.
     Steps,
+    /// The history is dropped.
+    Dropped,
 }
 
 /// Whether the trial succeeds.
@@ -34,6 +37,7 @@ fn succeeds(
         Trial::FailingWriter => is_stopped_by_a_writer(alloc, silo, row),
         Trial::Empty(count) => are_empty_answered(alloc, silo, count),
         Trial::Steps => is_asked(alloc, silo),
+        Trial::Dropped => is_dropped(alloc, silo),
     }
 }
 

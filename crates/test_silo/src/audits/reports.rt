@@ -101,13 +101,13 @@ fn take<L: GrainLogic>(
     silo.apply(alloc, step)
 }
 
-/// The text of the silo's journal, if it opened with no rows.
+/// The text of the silo's journal, if it opened empty.
 fn text_of<L: JournalKinds + Copy + Drop>(
     alloc: Global,
     silo: &Silo<FusedStorage, L>,
 ) -> Result<Vec<u8>, Fail> {
-    if !silo.opening().is_empty() {
-        return Err("it opened with rows".into());
+    if !silo.opens_empty() {
+        return Err("it didn't open empty".into());
     }
     Ok(write_journal(alloc, silo)?)
 }

@@ -4,6 +4,7 @@
 use crate::steps::arenas::take_in_one_arena;
 use crate::steps::at_once::{take_at_once, take_by_steps};
 use crate::steps::refusals::is_run;
+use crate::steps::reopening::is_worked_reopened;
 use crate::steps::rows::{NOTHING, Worked};
 use crate::steps::silos::{SiloOf, TestedSilo, answers, journal, new_silo, replies, rows};
 use crate::steps::strangers::tells_apart;
@@ -25,6 +26,8 @@ pub enum Trial {
     ByMethods,
     /// So they do, and the silo was opened with what is stored.
     Opening,
+    /// A silo that opens again wherever it is at rest gives the row.
+    Reopening,
     /// The first load fails, and is noted so.
     FailedLoad,
     /// Replies and rows are counted by tenant.
@@ -52,6 +55,7 @@ fn succeeds(
         Trial::OneRun => is_run(alloc, silo, row),
         Trial::ByMethods => is_worked(alloc, silo, row),
         Trial::Opening => opens_with(alloc, silo, row),
+        Trial::Reopening => is_worked_reopened(alloc, silo, row),
         Trial::FailedLoad => fails_to_load(alloc, silo, row),
         Trial::Counts => counts_by_tenant(alloc, silo, row),
         Trial::Opened => Ok(is_opened(silo)),

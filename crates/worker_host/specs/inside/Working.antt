@@ -1,5 +1,5 @@
--- What a silo at work knows beside its history: how much each client is owed, as far as its replies were looked at; and that its
--- journal is paced.
+-- What a silo at work knows beside its history: how much each client is owed, as far as its replies were looked at; that its journal is
+-- paced; and that nothing was kept as it opened.
 use Rattle.std.specs.Prelude.{◌≡◌, ℕ, ◌+◌, ◌≤◌, Bool, true, false, length, take, Option, Some, None, Result, Ok, Err}
 use Rattle.indexmap.specs.IndexMap.{IndexMap}
 use Rattle.grain_id.specs.Names.{Client}
@@ -10,6 +10,7 @@ use Rattle.silo_event.specs.declared.step.StepFault.{StepFault}
 use Rattle.silo_event.specs.declared.step.Step.{Step}
 use Rattle.silo_model.specs.Whole.{Whole, shown_to}
 use Rattle.silo_model.specs.Journal.{LeadsTo}
+use Rattle.silo_model.specs.Opening.{nothing_kept}
 use Rattle.lane_model.specs.Asking.{ids_asked, ids_told}
 use Rattle.lane_model.specs.Pacing.{is_paced, may_ask}
 use Rattle.silo_core.specs.History.{Answered, History}
@@ -24,11 +25,12 @@ was_done (Ok Failed) = true
 was_done (Ok NotNow) = false
 was_done (Err why) = false
 
--- The journal leads to what the silo has, and is paced. What each client is owed, and what it was told by the replies that were
--- looked at, is together what it asked.
+-- The journal leads to what the silo has, and is paced. The silo was new as it opened. What each client is owed, and what it was told
+-- by the replies that were looked at, is together what it asked.
 pub record IsWorking {S : Type 0} (logic : Logic) (h : History) (owing : IndexMap Client Owed S) (seen : ℕ) : Type 0 where
   pub leads : LeadsTo logic h.setup h.journal h.whole
   pub paced : is_paced logic h.setup h.journal ≡ true
+  pub new : h.setup.kept ≡ nothing_kept
   pub within : seen ≤ length h.whole.replies
   pub owed : (client : Client) → owing_to owing client + length (ids_told client (take seen h.whole.replies))
       ≡ length (ids_asked client h.journal)

@@ -91,7 +91,7 @@ returns-clause-started g c old finds =
     let after_it = log_view g.F.LogHost.begun g.F.LogHost.acts g.F.LogHost.failed c.cut_end.new.files in
     let cut : before.begun ≡ Some (head_text words number ++ behind) → Cuts before.acts before.begun after_it.acts after_it.begun (length (take (length c.args.bytes.now - length behind) c.args.bytes.now) + c.in-Ok.again.length) =
     λ is. on_ok c.cut_end.result _ (sym c.is_err.ensures.value ∙ c.if-is_err.false) (c.cut_end.ensures.ok (is ∙ ap Some (sym text))) in
-    started_again start sends old before number behind cuts.0 found after_it c.args.silo.now.history c.answer_again.new.silo.history c.in-Ok.again c.behind_head-place.result refl c.requires.opened place done
+    started_again start sends old before number behind cuts.0 found c.args.silo.now.keeps after_it c.args.silo.now.history c.answer_again.new.silo.history c.in-Ok.again c.behind_head-place.result refl c.requires.opened place done
     (cut_fresh start sends old before number behind cuts.0 found after_it _ cut)
     (cut_kept start sends old before number behind cuts.0 found after_it _ long cut)
 

@@ -19,7 +19,7 @@ returns-in-Ok-begin_log-clause-started g c =
     let n = c.args.task.now.number in
     begun_started (started (version_of g.L.GrainLogic.logic c.args.task.now.kinds) c.args.silo.now.history.setup) c.args.task.now.sends
     (log_view g.F.LogHost.begun g.F.LogHost.acts g.F.LogHost.failed c.args.files.now) (log_view g.F.LogHost.begun g.F.LogHost.acts g.F.LogHost.failed c.open.new.self) (log_view g.F.LogHost.begun g.F.LogHost.acts g.F.LogHost.failed c.begin_log.new.files) n
-    (rw c.in-None.is at c.in-Ok.ensures.ok) c.args.silo.now.history c.in-Ok-begin_log.place refl c.requires.opened (c.journal.ensures.idle c.requires.ready) (c.in-Ok-begin_log.ensures.place ∙ ap (λ (ws : List ℕ). place_of ws (spelled n)) words)
+    (rw c.in-None.is at c.in-Ok.ensures.ok) c.args.silo.now.keeps c.args.silo.now.history c.in-Ok-begin_log.place refl c.requires.opened (c.journal.ensures.idle c.requires.ready) (c.in-Ok-begin_log.ensures.place ∙ ap (λ (ws : List ℕ). place_of ws (spelled n)) words)
     (subst (λ (ws : List ℕ). Begins (g.F.LogHost.acts c.open.new.self) (g.F.LogHost.acts c.begin_log.new.files) (g.F.LogHost.begun c.begin_log.new.files) (head_text ws (spelled n))) words c.in-Ok-begin_log.ensures.begun)
 
 pub returns-in-Err-begin_log-clause-lasts : goal.returns-in-Err-begin_log-clause-lasts

@@ -74,3 +74,9 @@ returns-then-not-branch-clause-unfailed g c = c.in_ok-next_flushed.ensures.unfai
 
 pub returns-clause-unfailed : goal.returns-clause-unfailed
 returns-clause-unfailed g c = c.in_ok-flush.ensures.unfailed ∙ c.loop-count.invariant.1
+
+-- what was written went out before the read
+
+pub returns-in_err-next_flushed-clause-waits : goal.returns-in_err-next_flushed-clause-waits
+returns-in_err-next_flushed-clause-waits g c =
+    handed c.from_residual.result _ _ c.from_residual.ensures.1 (λ _ unwritten. c.in_err-next_flushed.ensures.stopped unwritten)

@@ -10,7 +10,7 @@ use Rattle.silo_journal.proofs.SiloJournal.{in_range, own_journal}
 use Rattle.silo_journal.proofs.writing.write_journal.Goals as goal
 
 pub returns-in_err-rows-clause-no_difference : goal.returns-in_err-rows-clause-no_difference
-returns-in_err-rows-clause-no_difference g c = λ tenant. own_journal g.L.GrainLogic.logic c.args.kinds c.args.silo.now tenant c.requires c.journal-steps.ensures.new c.journal-steps.ensures.leads
+returns-in_err-rows-clause-no_difference g c = λ tenant. own_journal g.L.GrainLogic.logic c.args.kinds c.args.silo.now tenant c.requires c.journal-steps.ensures.leads
 
 pub returns-clause-is_journal : goal.returns-clause-is_journal
 returns-clause-is_journal g c =
@@ -23,7 +23,7 @@ returns-clause-is_journal g c =
     subst (λ (j : History). IfOk c.journal_of_parts.result (λ text. IsJournalText text.items j)) same
     (c.journal_of_parts.ensures.is_journal
     (subst IsInRange (sym same)
-    (in_range g.L.GrainLogic.logic c.args.kinds h c.requires c.journal-steps.ensures.new c.journal-steps.ensures.leads is c.age.ensures.in_range (subst AreAges c.ages.ensures c.list.ensures.is_table) (subst IsTable c.tenants.ensures c.list-2.ensures.is_table) asked)))
+    (in_range g.L.GrainLogic.logic c.args.kinds h c.requires c.journal-steps.ensures.leads is c.age.ensures.in_range (subst AreAges c.ages.ensures c.list.ensures.is_table) (subst IsTable c.tenants.ensures c.list-2.ensures.is_table) asked)))
 
 pub returns-clause-no_difference : goal.returns-clause-no_difference
-returns-clause-no_difference g c = λ tenant. own_journal g.L.GrainLogic.logic c.args.kinds c.args.silo.now tenant c.requires c.journal-steps.ensures.new c.journal-steps.ensures.leads
+returns-clause-no_difference g c = λ tenant. own_journal g.L.GrainLogic.logic c.args.kinds c.args.silo.now tenant c.requires c.journal-steps.ensures.leads

@@ -16,7 +16,7 @@ pub invariant_of-self-2 : goal.invariant_of-self-2
 invariant_of-self-2 g c =
     let a = c.self.inside in
     let logic = g.L.GrainLogic.logic in
-    let setup = setup_of a.tenants a.age a.ages a.opening.items in
+    let setup = setup_of a.tenants a.age a.ages a.opening.items a.kept in
     let s = step.Begin c.args.grain in
     let grown : c.push_reserved.new.self.items ≡ a.journal.items ++ s ∷ [] = c.push_reserved.ensures.items ∙ ap (λ (j : List Step). j ++ s ∷ []) c.in_ok-reserve.ensures.items in
     (moves_lead logic setup a.journal.items c.push_reserved.new.self.items a.state c.begin.new.self s Done c.self.invariant.0 (rw c.in-Some.is at c.in_ok-turn.ensures.moves) grown, c.self.invariant.1)
@@ -25,5 +25,5 @@ pub returns-clause-parts : goal.returns-clause-parts
 returns-clause-parts g c =
     let a = c.self.inside in
     let logic = g.L.GrainLogic.logic in
-    let setup = setup_of a.tenants a.age a.ages a.opening.items in
+    let setup = setup_of a.tenants a.age a.ages a.opening.items a.kept in
     rw (← c.self.view_is) (moved_parts logic setup a.journal.items a.state c.begin.new.self (step.Begin c.args.grain) Done c.self.invariant.0 (rw c.in-Some.is at c.in_ok-turn.ensures.moves))

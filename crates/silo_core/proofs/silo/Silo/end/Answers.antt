@@ -12,7 +12,7 @@ pub invariant_of-self-2 : goal.invariant_of-self-2
 invariant_of-self-2 g c =
     let a = c.self.inside in
     let logic = g.L.GrainLogic.logic in
-    let setup = setup_of a.tenants a.age a.ages a.opening.items in
+    let setup = setup_of a.tenants a.age a.ages a.opening.items a.kept in
     let s = step.End c.in_ok-grain.grain c.number-turn.result in
     let answer = c.in_ok-answer.answer in
     let grown : c.note.new.journal.items ≡ a.journal.items ++ noted s answer = c.note.ensures ∙ ap (λ (j : List Step). j ++ noted s answer) c.in_ok-reserve.ensures.items in
@@ -22,7 +22,7 @@ pub returns-clause-parts : goal.returns-clause-parts
 returns-clause-parts g c =
     let a = c.self.inside in
     let logic = g.L.GrainLogic.logic in
-    let setup = setup_of a.tenants a.age a.ages a.opening.items in
+    let setup = setup_of a.tenants a.age a.ages a.opening.items a.kept in
     let s = step.End c.in_ok-grain.grain c.number-turn.result in
     let named = step.End c.args.finished.now.grain c.args.finished.now.number in
     let answer = c.in_ok-answer.answer in

@@ -2,7 +2,7 @@ use Rattle.std.proofs.Common.{◌≡◌, List, [], ap, sym, subst, ◌∙◌}
 use Rattle.silo_event.specs.declared.step.Step.{Step}
 use Rattle.grain_storage.specs.Rows.{Rows}
 use Rattle.silo_model.specs.Journal.{LeadsTo}
-use Rattle.silo_model.specs.Opening.{Setup, new_setup, opening}
+use Rattle.silo_model.specs.Opening.{Setup, opening}
 use Rattle.silo_model.specs.Whole.{Whole, shown_to}
 use Rattle.silo_model.proofs.Journals.{journals_begin}
 use Rattle.silo_model.proofs.Opening.{opening_shown}
@@ -20,12 +20,18 @@ module _ (g : given.Over) (c : goal.After-new-2 g) where
   same_rows = listed rows c.in_ok-opening.opening.items c.in_ok-opening.ensures
 
   abbrev opened : Setup
-  opened = setup_of c.args.setup.tenants c.args.setup.age c.args.setup.ages c.in_ok-opening.opening.items
+  opened = setup_of c.args.setup.tenants c.args.setup.age c.args.setup.ages c.in_ok-opening.opening.items c.nothing.result
 
   opens : c.in_ok-state.state.whole ≡ opening opened
   opens =
       ap (λ (h : Held). h.whole) c.in_ok-state.ensures
-      ∙ (λ i. opening (new_setup (c.list-2.ensures.list i) c.args.setup.age (c.in_ok-kinds.ensures.cases i) (sym same_rows i)))
+      ∙ (λ i. opening (record {
+        tenants = c.list-2.ensures.list i;
+        age = c.args.setup.age;
+        ages = c.in_ok-kinds.ensures.cases i;
+        rows = sym same_rows i;
+        kept = sym c.nothing.ensures i;
+      }))
 
 pub invariant_of-result : goal.invariant_of-result
 invariant_of-result g c =
@@ -37,7 +43,13 @@ invariant_of-result g c =
     )
 
 pub returns-clause-setup : goal.returns-clause-setup
-returns-clause-setup g c = λ i. new_setup c.args.setup.tenants c.args.setup.age c.args.setup.ages (same_rows g c i)
+returns-clause-setup g c = λ i. record {
+  tenants = c.args.setup.tenants;
+  age = c.args.setup.age;
+  ages = c.args.setup.ages;
+  rows = same_rows g c i;
+  kept = c.nothing.ensures i;
+}
 
 pub returns-clause-opening : goal.returns-clause-opening
 returns-clause-opening g c = (opens g c, c.new-2.ensures.items)

@@ -11,7 +11,7 @@ pub invariant_of-self-in-Ok-Some : goal.invariant_of-self-in-Ok-Some
 invariant_of-self-in-Ok-Some g c =
     let logic = g.L.GrainLogic.logic in
     let a = c.self.inside in
-    let setup = setup_of a.tenants a.age a.ages a.opening.items in
+    let setup = setup_of a.tenants a.age a.ages a.opening.items a.kept in
     let turn = c.in-Ok-Some.turn in
     let is : c.serve.result ≡ Ok (Some turn) = cc (c.in-Ok-Some.is, c.in-Ok-Some.field-0-is, c.in-Ok-Some.turn-is) in
     let d : Served logic a.state c.args.step (Some turn) c.serve.new.state = subst (λ r. IfOk r (λ o. Served logic a.state c.args.step o c.serve.new.state)) is c.serve.ensures.served in
@@ -27,7 +27,7 @@ pub returns-in-Ok-Some : goal.returns-in-Ok-Some
 returns-in-Ok-Some g c =
     let logic = g.L.GrainLogic.logic in
     let a = c.self.inside in
-    let setup = setup_of a.tenants a.age a.ages a.opening.items in
+    let setup = setup_of a.tenants a.age a.ages a.opening.items a.kept in
     let turn = c.in-Ok-Some.turn in
     let is : c.serve.result ≡ Ok (Some turn) = cc (c.in-Ok-Some.is, c.in-Ok-Some.field-0-is, c.in-Ok-Some.turn-is) in
     let d : Served logic a.state c.args.step (Some turn) c.serve.new.state = subst (λ r. IfOk r (λ o. Served logic a.state c.args.step o c.serve.new.state)) is c.serve.ensures.served in

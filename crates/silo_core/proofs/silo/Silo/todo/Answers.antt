@@ -29,7 +29,7 @@ pub returns : goal.returns
 returns g c =
     let logic = g.L.GrainLogic.logic in
     let a = c.self.inside in
-    let own = sends_are_own logic (setup_of a.tenants a.age a.ages a.opening.items) a.journal.items a.state.whole c.self.invariant.0 in
+    let own = sends_are_own logic (setup_of a.tenants a.age a.ages a.opening.items a.kept) a.journal.items a.state.whole c.self.invariant.0 in
     let has = subst (HasSent a.state.whole.accounts) (sym c.in_ok-grain.ensures.cases) c.in-Some-first_sender.ensures.found in
     subst (λ (h : History). IsTodo logic h.whole (Some (Deliver c.in_ok-grain.grain))) c.self.view_is
     (delivery_to_do logic a.state.whole own c.in_ok-grain.grain has)
