@@ -19,14 +19,30 @@ use silo_event::{Reply, Step};
 use std::alloc::{AllocError, Global};
 use std::marker::Model;
 
-/// A line that was answered, beside its bytes and those of its text: what its steps take, about.
-const LINE_WEIGHT: u64 = 128;
+/// Bytes that a step takes in a history, about.
+const STEP_WEIGHT: u64 = 40;
 
-/// A grain that is active: what it takes in a list of what is kept, about.
-const GRAIN_WEIGHT: u64 = 256;
+/// Bytes that a reply takes in a history beside those of its state, about.
+const REPLY_WEIGHT: u64 = 64;
+
+/// Bytes that a row, or an active grain, takes in the lists with which a silo opens again, about.
+const LISTED_WEIGHT: u64 = 256;
 
 /// A history of fewer bytes isn't dropped.
 const LEAST_HISTORY: u64 = 16_777_216;
+
+/// So many bytes with those that replies take, about.
+fn weighed_with(bytes: u64, replies: &[Reply]) -> u64 {
+    let mut sum = bytes;
+    for reply in replies {
+        let state = match &reply.outcome {
+            Ok(state) => state.bytes().len() as u64,
+            Err(_) => 0,
+        };
+        sum = sum.saturating_add(REPLY_WEIGHT).saturating_add(state);
+    }
+    sum
+}
 
 /// A silo in which nothing waits and nothing is open, unless it stopped for want of memory. It keeps its history, or drops it
 /// from time to time.
@@ -36,8 +52,10 @@ pub struct AnsweringSilo<S: GrainStorage, L: GrainLogic> {
     stopped: bool,
     keeps: bool,
 
-    // Bytes of history, about, and with how many of them it is dropped.
+    // Bytes of lines and replies in the history, about; how many of its replies are among them; and with how many bytes of
+    // history it is dropped.
     grown: u64,
+    weighed: usize,
     due: u64,
 }
 
@@ -99,6 +117,7 @@ impl<S: GrainStorage + Drop, L: GrainLogic + Drop> AnsweringSilo<S, L> {
             stopped: false,
             keeps: true,
             grown: 0,
+            weighed: 0,
             due: LEAST_HISTORY,
         })
     }
@@ -128,25 +147,35 @@ impl<S: GrainStorage, L: GrainLogic> AnsweringSilo<S, L> {
         self.keeps = false;
     }
 
-    /// Notes how many bytes were read and written for a line. A history that needn't be kept is dropped once it is as large as
-    /// what the silo holds, and 16 MB: the silo opens again where it is. If memory is refused for that, the history stays for
-    /// the time being.
+    /// Notes that a line of so many bytes was answered. A history that needn't be kept is dropped once its lines, steps and
+    /// replies, those to grains too, take about 16 MB, and no less than lists of its rows and of the grains that are active:
+    /// the silo opens again where it is. If memory is refused for that, the history stays until it is 16 MB larger.
     pub fn note(&mut self, alloc: Global, bytes: usize)
         ensures history { MayDrop self.old.keeps self.old.history self.new.history }
         ensures stopped { self.new.stopped ≡ self.old.stopped }
         ensures keeps { self.new.keeps ≡ self.old.keeps }
     {
-        self.grown = self
-            .grown
-            .saturating_add(LINE_WEIGHT)
-            .saturating_add(bytes as u64);
-        if self.grown < self.due || self.keeps {
+        if self.keeps {
             return;
         }
-        self.grown = 0;
-        if self.silo.reopen(alloc).is_ok() {
-            let grains = self.silo.opening_kept().grains.len() as u64;
-            self.due = grains.saturating_mul(GRAIN_WEIGHT).max(LEAST_HISTORY);
+        let replies = self.silo.replies();
+        let (_, new) = replies.split_at(self.weighed.min(replies.len()));
+        self.grown = weighed_with(self.grown.saturating_add(bytes as u64), new);
+        self.weighed = replies.len();
+        let steps = (self.silo.journal().len() as u64).saturating_mul(STEP_WEIGHT);
+        if self.grown.saturating_add(steps) < self.due {
+            return;
+        }
+        match self.silo.reopen(alloc) {
+            Ok(_) => {
+                let rows = self.silo.opening().len() as u64;
+                let grains = self.silo.opening_kept().grains.len() as u64;
+                let list = rows.saturating_add(grains).saturating_mul(LISTED_WEIGHT);
+                self.due = list.max(LEAST_HISTORY);
+                self.grown = 0;
+                self.weighed = 0;
+            }
+            Err(_) => self.due = self.due.saturating_add(LEAST_HISTORY),
         }
     }
 

@@ -102,7 +102,7 @@ pub fn answer_lines<R: Read, W: Write, S: GrainStorage, L: GrainLogic>(
             input.lines.line(),
             &mut text,
         )?;
-        silo.note(alloc, input.lines.line().len().saturating_add(text.len()));
+        silo.note(alloc, input.lines.line().len());
     }
     output.flush()?;
     if input.lines.fill(&mut input.reader)? {

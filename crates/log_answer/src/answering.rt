@@ -60,7 +60,7 @@ pub(crate) fn answer_well<S: GrainStorage, L: GrainLogic>(
     )?;
     let (_, new) = silo.journal().split_at(before);
     if all_went_well(new) {
-        silo.note(alloc, line.len().saturating_add(tools.text.len()));
+        silo.note(alloc, line.len());
         Ok(())
     } else {
         Err(AllocError)

@@ -9,13 +9,15 @@ use std::test::Fail;
 /// Bytes of a line with which a history is dropped.
 const MANY: usize = 16_777_216;
 
-/// Whether the history is dropped once it may be: a tick stands in it, and then it is empty.
+/// Whether the history is dropped once it may be and is large: a tick stands in it until then, and it is empty after.
 fn drops(alloc: Global, silo: &mut TestedSilo) -> bool {
     note(alloc, silo, MANY);
     let kept = keeps_history(silo) && taken(silo) == 1;
     drop_history(silo);
     note(alloc, silo, 1);
-    kept && !keeps_history(silo) && taken(silo) == 0 && replies(silo).is_empty()
+    let small = !keeps_history(silo) && taken(silo) == 1;
+    note(alloc, silo, MANY);
+    kept && small && taken(silo) == 0 && replies(silo).is_empty()
 }
 
 /// Whether a silo takes a tick, drops its history, and still refuses an earlier tick.
