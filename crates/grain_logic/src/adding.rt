@@ -1,6 +1,6 @@
 //! A turn that adds a number to its state, by the state's bytes.
 
-ghost use Rattle.std.specs.Prelude.{◌≡◌, IfOk};
+ghost use Rattle.std.specs.Prelude.{◌≡◌, None, IfOk, OnErr};
 ghost use Rattle.request_codec.specs.Tree.{Tree};
 ghost use Rattle.turn_arena.specs.NodeValue.{node_value};
 ghost use Rattle.grain_logic.specs.Adding as adding;
@@ -45,6 +45,9 @@ pub(crate) fn number_in<'a>(bump: &'a Bump, state: &'a StateBytes) -> Result<i64
 #[inline(always)]
 pub(crate) fn added(alloc: Global, number: i64, by: i64) -> OwnedPlan
     ensures { (state : Tree) → adding.number_of state ≡ number → planned_shown state result ≡ adds_number state by }
+
+    // A refused addition writes no new state, not even the same one again.
+    ensures unwritten { OnErr result.outcome (result.state ≡ None) }
 {
     match number.checked_add(by) {
         Some(sum) => plain(

@@ -1,6 +1,6 @@
 //! A turn's message and state, read into its arena.
 
-ghost use Rattle.std.specs.Prelude.{◌≡◌, IfOk, IfSome};
+ghost use Rattle.std.specs.Prelude.{◌≡◌, None, List, ℕ, ℤ, IfOk, IfSome};
 ghost use Rattle.request_codec.specs.Call.{asks};
 ghost use Rattle.request_codec.specs.Tree as tree;
 ghost use Rattle.request_codec.specs.Tree.{integer, field, no_fields};
@@ -29,6 +29,8 @@ pub(crate) fn asked_in<'a>(
 pub(crate) fn number_asked(message: &Message) -> Option<(&str, &str, i64)>
     ensures { IfSome result
         (λ found. message.now ≡ asks found.0.now (tree.map (field found.1.now (integer found.2) no_fields))) }
+    ensures none { result ≡ None → (method : List ℕ) → (name : List ℕ) → (number : ℤ)
+        → message.now ≡ asks method (tree.map (field name (integer number) no_fields)) → ⊥ }
 {
     turn_arena::number_asked(message)
 }

@@ -44,6 +44,8 @@ pub(crate) fn plain(
     outcome: Result<StateBytes, MethodFault>,
 ) -> OwnedPlan
     ensures { (kept : Tree) → planned_shown kept result ≡ keeps (unwrap_or state kept) outcome }
+    ensures state { result.state ≡ state }
+    ensures outcome { result.outcome ≡ outcome }
 {
     OwnedPlan {
         state,
