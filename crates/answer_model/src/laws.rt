@@ -14,13 +14,13 @@ pub fn tenants_apart()
 {}
 
 /// If nothing waits and nothing is open, so it is again when anything was answered; and who asked has
-/// one reply, the first of all that are new, of which the others are told to grains.
+/// one reply, the first of all that are new, of which the others are replies to grains.
 pub fn answered_at_once()
     ensures { AnsweredAtOnce }
 {}
 
-/// If the storage didn't fail in anything that was done for what is asked, and no turn was given up, then it is what is
-/// done with good luck: a function of what the silo has and of what is asked.
+/// If the storage didn't fail in anything that was done for what is asked, and no turn was abandoned, then it is what
+/// is done with good luck: a function of what the silo has and of what is asked.
 #[tactic(auto, using(crate::proofs::Certain::answered_certainly))]
 pub fn answered_certainly()
     ensures { AnsweredCertainly }

@@ -70,7 +70,7 @@ impl Lane {
         }
     }
 
-    /// Adds a step behind the others, if the lane may give it, and says whether it may.
+    /// Adds a step after the others, if the lane may give it, and returns whether it may.
     ///
     /// # Errors
     ///
@@ -88,7 +88,7 @@ impl Lane {
         Ok(true)
     }
 
-    /// Adds a step that the lane may give, behind the others.
+    /// Adds a step that the lane may give, after the others.
     ///
     /// # Errors
     ///

@@ -16,7 +16,7 @@ use std::alloc::{AllocError, Global};
 type RepliesByClient = IndexMap<Caller, Vec<Reply>, HashSeed>;
 
 /// For each lane the replies to its client, in order; for nobody's lane none. One pass over the
-/// replies, with a look-up for each that a client is told, by a hash from the seed. A list has room for a
+/// replies, with a look-up for each reply to a client, by a hash from the seed. A list has room for a
 /// reply to each of its lane's steps from the start.
 ///
 /// # Errors
@@ -43,7 +43,7 @@ pub fn answers(
     Ok(answers)
 }
 
-/// No client was told anything. There is room for a reply to each step of the lanes.
+/// No client has a reply yet. There is room for a reply to each step of the lanes.
 fn none_told(alloc: Global, seed: HashSeed, lanes: &[Lane]) -> Result<RepliesByClient, AllocError>
     ensures { IfOk result (λ told. (client : Client) → told_to told client ≡ []) }
 {
@@ -67,7 +67,7 @@ fn expect(alloc: Global, told: &mut RepliesByClient, lane: &Lane) -> Result<(), 
     Ok(())
 }
 
-/// Adds the replies behind those that their clients are told.
+/// Adds the replies after those that their clients have.
 fn tell_all(alloc: Global, told: &mut RepliesByClient, replies: &[Reply]) -> Result<(), AllocError>
     ensures { OnOk result ((client : Client) → told_to told.new client ≡ told_to told.old client ++ replies_to (Some client) replies.now) }
 {
@@ -81,7 +81,7 @@ fn tell_all(alloc: Global, told: &mut RepliesByClient, replies: &[Reply]) -> Res
     Ok(())
 }
 
-/// Adds a reply behind those that the client is told.
+/// Adds a reply after those that the client has.
 fn add(
     alloc: Global,
     told: &mut RepliesByClient,

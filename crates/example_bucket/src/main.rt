@@ -104,7 +104,7 @@ fn answer<H: AllocGlobal + RandomSource, F: WholeFiles, R: Read, W: Write>(
     }
 }
 
-/// Does what the words ask for.
+/// Runs the command that the words name, or shows the help or the version.
 fn serve<H: AllocGlobal + RandomSource, F: WholeFiles, R: Read, W: Write>(
     rt: &H,
     words: &[String],

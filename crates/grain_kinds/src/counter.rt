@@ -44,7 +44,7 @@ pub(crate) fn since(method: &str) -> u8
     every_kind::since(method)
 }
 
-/// What a turn of a counter comes to.
+/// The plan of a turn of a counter.
 #[tactic(auto, unfolding(crate::specs::Counter::counter_methods))]
 #[inline(always)]
 pub(crate) fn plan_of<'a>(alloc: Global, method: &str, state: Node<'a>, args: Node<'a>) -> Plan<'a>

@@ -36,7 +36,7 @@ pub(crate) fn since(method: &str) -> u8
     1
 }
 
-/// What a turn of the method comes to, if every kind has it. Any other is unknown.
+/// The plan of a turn of the method, if every kind has it. Any other method is unknown.
 #[tactic(auto, using(crate::specs::LawsOfEveryKind::stored_plan), unfolding(crate::specs::EveryKind::every_kind))]
 pub(crate) fn plan_of<'a>(alloc: Global, method: &str, args: Node<'a>) -> Plan<'a>
     ensures { (state : Tree) → plan_shown state result ≡ plan_by (method_in every_kind method.now) state (node_value args.entry) }

@@ -151,7 +151,7 @@ pub(crate) fn empty_at(_version: u8, alloc: Global, kind: &str) -> Result<StateB
     state_of(alloc, empty_of(kind))
 }
 
-/// What a turn of the method comes to at a version. One that doesn't stand yet is unknown.
+/// The plan of a turn of the method at a version. A method that the version doesn't have yet is unknown.
 #[tactic(auto, using(grain_logic::proofs::Fits::formed_ascends))]
 #[inline(always)]
 pub(crate) fn plan_at<'a>(

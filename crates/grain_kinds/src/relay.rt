@@ -57,7 +57,7 @@ pub(crate) fn since(method: &str) -> u8
     every_kind::since(method)
 }
 
-/// What a turn of a relay comes to.
+/// The plan of a turn of a relay.
 #[tactic(auto, unfolding(crate::specs::Relay::relay_methods))]
 pub(crate) fn plan_of<'a>(
     alloc: Global,

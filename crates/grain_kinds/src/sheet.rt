@@ -60,7 +60,7 @@ pub(crate) fn since(method: &str) -> u8
     every_kind::since(method)
 }
 
-/// What a turn of a sheet comes to.
+/// The plan of a turn of a sheet.
 #[tactic(auto, unfolding(crate::specs::Sheet::sheet_methods))]
 pub(crate) fn plan_of<'a>(
     alloc: Global,

@@ -40,8 +40,8 @@ pub(crate) fn number_in<'a>(bump: &'a Bump, state: &'a StateBytes) -> Result<i64
     Ok(number_of(state_in(bump, state)?))
 }
 
-/// What a turn comes to that adds to a number, as a counter's `add` does: the sum is the new state and the answer; or
-/// `OutOfRange`.
+/// The plan of a turn that adds to a number, as a counter's `add` does: the sum is the new state and the answer; or the
+/// answer is the fault `OutOfRange`.
 #[inline(always)]
 pub(crate) fn added(alloc: Global, number: i64, by: i64) -> OwnedPlan
     ensures { (state : Tree) → adding.number_of state ≡ number → planned_shown state result ≡ adds_number state by }

@@ -8,7 +8,7 @@ pub enum MethodFault {
     /// The kind has no such method.
     #[error("method is unknown")]
     UnknownMethod,
-    /// The arguments haven't the shape that the method asks for.
+    /// The arguments don't have the shape that the method takes.
     #[error("arguments do not fit")]
     Misfit,
     /// The result leaves its range.

@@ -32,7 +32,7 @@ pub trait GrainLogic {
         requires { logic.knows kind.now ≡ true }
         ensures { IfOk result (λ state. state ≡ logic.empty kind.now) };
 
-    /// What a turn of the method comes to. The state and the call have to keep the limits of a state and a message.
+    /// The plan of a turn of the method. The state and the call must be within the limits of a state and a message.
     fn plan<'a>(
         &self,
         alloc: Global,

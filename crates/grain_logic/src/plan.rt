@@ -1,4 +1,4 @@
-//! What a turn comes to.
+//! What a turn results in: its plan.
 
 ghost use Rattle.std.specs.Prelude.{◌≡◌};
 ghost use Rattle.request_codec.specs.Tree.{Tree};
@@ -31,7 +31,7 @@ pub enum Keep {
     Same,
     /// It rests: it goes as soon as no request waits and no turn is open.
     Rest,
-    /// It stays for at least so many milliseconds, 1 to 86,400,000, however long it is idle.
+    /// It stays for at least this many milliseconds, 1 to 86,400,000, however long it is idle.
     Stay(u64),
 }
 
@@ -43,7 +43,7 @@ pub struct Send<'a> {
     pub args: Node<'a>,
 }
 
-/// What a turn comes to, with its values in the turn's arena.
+/// What a turn results in, with its values in the turn's arena.
 #[derive(Drop)]
 pub struct Plan<'a> {
     /// The state after the turn, if it is another one.

@@ -17,8 +17,8 @@ use request_codec::StateBytes;
 use std::alloc::{AllocError, Global};
 use turn_arena::{Node, put_spelled};
 
-/// What a turn comes to that sets the field of a name, as a sheet's `put` does: the state with the field set, and null;
-/// or `TooLarge`. The new state is written into room for that many bytes at first.
+/// The plan of a turn that sets the field of a name, as a sheet's `put` does: the state with the field set, and null;
+/// or the fault `TooLarge`. The new state is written into room for `room` bytes at first.
 pub(crate) fn set_planned(
     alloc: Global,
     room: usize,

@@ -27,7 +27,7 @@ use std::alloc::{AllocError, Global};
 use std::marker::{Model, PhantomData};
 use turn_arena::Node;
 
-/// What a turn came to, in bytes of its own.
+/// What a turn resulted in, in bytes of its own.
 #[derive(Clone, Drop)]
 pub struct OwnedPlan {
     /// The state after the turn, if it is another one.
@@ -64,8 +64,9 @@ impl<L: GrainLogic> Model for FinishedTurn<L> {
     ghost invariant = { λ f. planned_shown f.opened.state f.planned ≡ turn_plan L.logic f.opened };
 }
 
-/// So many bytes, rounded up in steps of a thirty-second to an eighth of them, if they aren't few. Blocks of
-/// states that grow a little are then of the same sizes, so that one fits where another was.
+/// A number of bytes, raised to the next larger multiple of a step, which is a thirty-second to an eighth of it. Below
+/// 1,024 it stays as it is. Blocks of states that grow a little then have the same sizes, so that one fits where
+/// another was.
 fn in_steps(bytes: usize) -> usize {
     let step = match bytes {
         0..1_024 => return bytes,
@@ -213,7 +214,7 @@ impl<L: GrainLogic> FinishedTurn<L> {
         self.opened.number
     }
 
-    /// What the turn came to.
+    /// The turn's plan: what it resulted in.
     pub fn plan(&self) -> &OwnedPlan
         ensures plan { planned_shown self.now.state result.now ≡ turn_plan L.logic self.now }
     {

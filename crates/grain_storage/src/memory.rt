@@ -183,7 +183,7 @@ impl GrainStorage for MemoryStorage {
     }
 }
 
-/// Puts a row behind those that are there, or in the place of the grain's earlier one.
+/// Puts a row after those that are there, or in the place of the grain's earlier one.
 fn place(
     kept: &mut IndexMap<GrainId, Row, HashSeed>,
     grain: GrainId,

@@ -21,8 +21,8 @@ pub fn paced_grows()
     ensures { PacedGrows }
 {}
 
-/// In a paced journal a client of whom nothing waits or is open was told as much as it asked, in
-/// the order in which it asked.
+/// In a paced journal a client of whom nothing waits or is open has a reply to each of its requests, in
+/// the order in which it made them.
 #[tactic(auto, using(crate::proofs::AnswerOrder::answered_in_order))]
 pub fn answered_in_order()
     ensures { AnsweredInOrder }
@@ -41,13 +41,13 @@ pub fn steps_told_apart()
     ensures { StepsToldApart }
 {}
 
-/// One pass over a journal, with what is left of each lane, tells whether the lanes stand in it.
+/// One pass over a journal, with what is left of each lane, decides whether the lanes stand in it.
 #[tactic(auto, using(crate::proofs::PassOfLanes::pass_decides))]
 pub fn pass_decides()
     ensures { PassDecides }
 {}
 
-/// If lanes were served, each client was told as much as its lane asks, in the lane's order.
+/// If lanes were served, each client has a reply to each step of its lane, in the lane's order.
 pub fn lanes_answered()
     ensures { LanesAnswered }
 {}
@@ -70,7 +70,7 @@ pub fn covers_grow()
     ensures { CoversGrow }
 {}
 
-/// Nothing of a client waits or is open exactly if it was told as often as it asked.
+/// Nothing of a client waits or is open exactly if it has as many replies as it made requests.
 #[tactic(auto, using(crate::proofs::CountsOfAll::pending_by_counts))]
 pub fn pending_by_counts()
     ensures { PendingByCounts }

@@ -19,8 +19,8 @@ use std::alloc::Global;
 use std::io::{Read, Write};
 use std::mem;
 
-/// Answers each line of the input before the next is read, with at most so many deliveries behind it. What was written goes
-/// out, also what was written before a fault.
+/// Answers each line of the input before the next is read, followed by at most `sends` deliveries. What was written
+/// goes out. After a fault it is flushed, too, but whether that flush failed isn't looked at.
 fn answer_reader<L: GrainLogic, R: Read, W: Write>(
     alloc: Global,
     silo: &mut AnsweringSilo<MemoryStorage, L>,
@@ -80,8 +80,8 @@ fn keep_after<F: WholeFiles, L: GrainLogic>(
     }
 }
 
-/// Answers each line of the input before the next is read, with at most so many deliveries behind it. No journal is kept, so that
-/// the silo drops its history from time to time.
+/// Answers each line of the input before the next is read, followed by at most `sends` deliveries. No journal is kept,
+/// so that the silo drops its history from time to time.
 fn answer_only<L: GrainLogic + Drop, F: WholeFiles, R: Read, W: Write>(
     alloc: Global,
     start: Start<L>,
@@ -168,9 +168,9 @@ fn answer_and_keep<L: GrainLogic + Drop, F: WholeFiles, R: Read, W: Write>(
     }
 }
 
-/// Answers each line of the input before the next is read, with at most so many deliveries behind it. If a path is given,
-/// the journal is written there: that of no step before anything is read, and the whole one at the end, however the input
-/// ends. If none is, the silo drops its history from time to time: its memory doesn't grow with the lines.
+/// Answers each line of the input before the next is read, followed by at most `sends` deliveries. If a path is given,
+/// the journal is written there: that of no step before anything is read, and the whole one at the end, however the
+/// input ends. If none is, the silo drops its history from time to time: its memory doesn't grow with the lines.
 ///
 /// # Errors
 ///

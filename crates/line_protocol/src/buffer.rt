@@ -36,7 +36,7 @@ pub(crate) enum Place {
 impl Buffer {
     ghost use Rattle.line_protocol.specs.inside.Buffers.{IsInside, ahead_in, left_in};
 
-    /// Nothing is read yet. Takes so many bytes, which are read at once.
+    /// Nothing is read yet. Takes memory for `capacity` bytes, the most that one read brings.
     pub(crate) fn with_capacity(alloc: Global, capacity: usize) -> Result<Buffer, AllocError>
         requires { 0 < capacity }
         ensures room { IfOk result (λ buffer. vec_len buffer.bytes ≡ capacity) }

@@ -18,10 +18,10 @@ pub struct ReaderCalls {
     ghost counted: { made ≤ calls_limit },
 }
 
-/// What one call of a reader came to.
+/// The result of one call of a reader.
 #[derive(Clone, Copy)]
 pub(crate) enum Call {
-    /// So many bytes: none only at the end.
+    /// This many bytes: none only at the end.
     Gave(usize),
     /// The call was interrupted, and may be made again.
     Interrupted,

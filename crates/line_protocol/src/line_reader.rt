@@ -50,7 +50,7 @@ impl LineReader {
         LineReader::with_capacity(alloc, CAPACITY)
     }
 
-    /// The same, with a buffer of so many bytes, at least one, which are read at once.
+    /// The same, with a buffer of the given number of bytes, at least one: a read brings at most that many.
     pub fn with_capacity(alloc: Global, bytes: usize) -> Result<LineReader, AllocError>
         requires { 0 < bytes }
         ensures fresh { IfOk result (λ lines. IsFresh lines) }

@@ -37,7 +37,7 @@ impl<R: Read + Drop> Input<R> {
         Ok(Input { lines, reader })
     }
 
-    /// The same, with a buffer of so many bytes, at least one: a read brings at most so many.
+    /// The same, with a buffer of the given number of bytes, at least one: a read brings at most that many.
     pub fn with_capacity(alloc: Global, reader: R, bytes: usize) -> Result<Input<R>, AllocError>
         requires { 0 < bytes }
         ensures reader { IfOk result (λ input. input.reader ≡ reader) }

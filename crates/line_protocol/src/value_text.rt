@@ -68,7 +68,7 @@ fn push_value<'b>(
     Ok(rest)
 }
 
-/// Adds a list of so many members, and gives the bytes after it.
+/// Adds a list of `count` members, and returns the bytes after it.
 #[cycle(printing)]
 fn push_members<'b>(
     alloc: Global,
@@ -93,7 +93,7 @@ fn push_members<'b>(
     Ok(rest)
 }
 
-/// Adds a map of so many fields, and gives the bytes after it.
+/// Adds a map of `count` fields, and returns the bytes after it.
 #[cycle(printing)]
 fn push_fields<'b>(
     alloc: Global,

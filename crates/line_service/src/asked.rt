@@ -1,4 +1,4 @@
-//! What the lines of an input ask for.
+//! What the lines of an input request.
 
 ghost use Rattle.std.specs.Prelude.{◌≡◌, ◌++◌, ◌∷◌, [], IfOk, List, OnOk, Some};
 ghost use Rattle.silo_event.specs.declared.step.Step.{Step as StepValue};
@@ -15,7 +15,7 @@ use line_parser::{Line, LineRefusal};
 use silo_event::Step;
 use std::alloc::{AllocError, Global};
 
-/// What the lines of an input ask for: lanes, and refusals of the lines that are of none.
+/// What the lines of an input request: lanes, and refusals of the lines that belong to no lane.
 #[derive(Drop)]
 pub struct LanesAndRefusals {
     /// The lanes, in the order of their first lines.
@@ -24,9 +24,9 @@ pub struct LanesAndRefusals {
     pub refusals: Vec<LineRefusal>,
 }
 
-/// The lanes that the lines ask for, and the refusals of the other lines. A step goes to the lane that
-/// gives it; a step that no lane gives, or that has the mark of a failure, is refused as no request. One
-/// pass over the lines, with a look-up for each step, by a hash from the seed.
+/// The lanes that the lines make up, and the refusals of the other lines that have bytes. A step goes
+/// to the lane that gives it; a step that no lane gives, or that has the mark of a failure, is refused
+/// as no request. One pass over the lines, with a look-up for each step, by a hash from the seed.
 ///
 /// # Errors
 ///
@@ -59,8 +59,8 @@ pub fn asked_by(
     Ok(LanesAndRefusals { lanes, refusals })
 }
 
-/// Adds a step behind those of the lane that gives it. If it is the first of the lane, the lane stands
-/// last.
+/// Adds a step after those of the lane that gives it. If it is the first of its lane, the lane is added
+/// after the others.
 fn add_step(
     alloc: Global,
     lanes: &mut Vec<Lane>,

@@ -26,7 +26,7 @@ pub fn push_number(text: &mut String, number: usize) -> Result<(), AllocError>
     Ok(())
 }
 
-/// The code that a refusal of a line is told with.
+/// The error code of a refused line.
 fn code_of_refusal(refusal: LineRefusal) -> u8
     ensures { result ≡ fault_code (fault_of refusal) }
 {

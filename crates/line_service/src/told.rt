@@ -1,4 +1,4 @@
-//! What each grain is told.
+//! The replies to each grain.
 
 ghost use Rattle.std.specs.Prelude.{◌≡◌, IfOk, OnOk};
 ghost use Rattle.std.specs.BTreeMap.{IsOrdered};
@@ -13,7 +13,7 @@ use std::collections::BTreeMap;
 /// The replies to each grain, in order.
 pub(crate) type ToldByGrain<'r> = BTreeMap<GrainId, Vec<&'r Reply>>;
 
-/// Puts a reply behind those to the grain.
+/// Adds a reply after those to the grain.
 fn add_reply<'r>(
     alloc: Global,
     told: &mut ToldByGrain<'r>,
@@ -32,7 +32,7 @@ fn add_reply<'r>(
     Ok(())
 }
 
-/// What each grain is told. Takes memory for each reply to a grain.
+/// The replies to each grain. Takes memory for each reply to a grain.
 pub(crate) fn told_by_grain<'r>(
     alloc: Global,
     replies: &'r [Reply],

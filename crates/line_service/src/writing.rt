@@ -144,7 +144,7 @@ fn write_each<W: Write>(
     Ok(())
 }
 
-/// Writes what grains are told: grains ascending, the replies to each in order.
+/// Writes the replies to grains: grains ascending, the replies to each in order.
 fn write_told<W: Write>(
     alloc: Global,
     text: &mut String,
@@ -162,7 +162,7 @@ fn write_told<W: Write>(
     write_each(alloc, text, told, output)
 }
 
-/// Writes the lines: of the refusals; of each lane's replies; and of what grains are told.
+/// Writes the lines: of the refusals; of each lane's replies; and of the replies to grains.
 fn write_parts<W: Write>(
     alloc: Global,
     refusals: &[LineRefusal],

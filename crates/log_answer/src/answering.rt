@@ -30,11 +30,12 @@ impl LineTools {
     }
 }
 
-/// Answers a line. What it is told is the text. After it a silo that needn't keep its history may drop it.
+/// Answers a line. The text of its replies is in `tools` afterwards. Then a silo that needn't keep its history may drop
+/// it.
 ///
 /// # Errors
 ///
-/// Out of memory; or a call of the storage failed, or a turn was given up. It isn't told what the silo holds then.
+/// Out of memory; or a call of the storage failed, or a turn was abandoned. What the silo holds then isn't specified.
 pub(crate) fn answer_well<S: GrainStorage, L: GrainLogic>(
     alloc: Global,
     tools: &mut LineTools,

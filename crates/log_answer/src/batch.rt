@@ -1,4 +1,4 @@
-//! Lines that are kept and told together.
+//! Lines that are written to the log together, and whose replies are written together.
 
 ghost use Rattle.std.specs.Prelude.{◌≡◌, ◌++◌, [], false, true, IfOk, OnErr, OnOk, take};
 ghost use Rattle.std.specs.Io.KnownBytes.{Keeps};
@@ -20,7 +20,8 @@ use std::io::Write;
 /// Bytes of lines and of texts: above that a batch takes no line more.
 const BATCH_LIMIT: usize = 1_048_576;
 
-/// Lines that were answered and aren't told yet: what the log is to have of them, and their text.
+/// Lines that were answered, but whose replies aren't written yet: what the log gets of them, and the text of their
+/// replies.
 #[derive(Drop)]
 pub(crate) struct Batch {
     pub(crate) asked: Vec<u8>,
@@ -54,7 +55,7 @@ impl Batch {
     }
 }
 
-/// The first bytes, so many at most.
+/// The first bytes, at most `limit` of them.
 fn first_bytes(bytes: &[u8], limit: usize) -> &[u8]
     ensures { result.now ≡ take limit bytes.now }
 {
@@ -92,7 +93,8 @@ pub(crate) fn answer_more<S: GrainStorage, L: GrainLogic>(
     batch.add(kept, tools.text.as_str().as_bytes())
 }
 
-/// Keeps the lines of the batch, if there are any, and tells their text; then it is empty.
+/// Writes the lines of the batch to the log, if there are any, then has them on the disk, and then writes their text to
+/// the output. The batch is empty afterwards.
 ///
 /// # Errors
 ///

@@ -3,7 +3,8 @@
 ghost use Rattle.log_answer.specs.Laws.{LeftIsAll, LinesLeadOn, LogsApart, OwnTaken, SilosGrow, SilosLast, StartsGoOn, StartsTell};
 ghost use Rattle.log_answer.specs.Laws.{TellsAsEver};
 
-/// What a silo tells for some lines is the beginning of what it tells for them and for more.
+/// The text of a silo's replies to some lines is the beginning of the text of its replies to them and more lines after
+/// them.
 #[tactic(auto, using(crate::proofs::Led::silos_grow))]
 pub fn silos_grow()
     ensures { SilosGrow }
@@ -16,19 +17,21 @@ pub fn starts_go_on()
     ensures { StartsGoOn }
 {}
 
-/// The marks of what such a start keeps say the sums of what is told, up to the place where it goes on.
+/// The marks in what such a start keeps record the sums of the text of the replies, up to the place where the log goes
+/// on.
 pub fn starts_tell()
     ensures { StartsTell }
 {}
 
-/// A start takes each log whose marks say the sums of what is told, wherever it was cut, unless memory is refused.
+/// A start takes each log whose marks record the sums of the text of the replies, wherever the log was cut, unless it
+/// fails with `Memory`.
 #[tactic(auto, using(crate::proofs::Own::own_taken))]
 pub fn own_taken()
     ensures { OwnTaken }
 {}
 
-/// However often a process ends and starts again: all that any of its lives told is the beginning of what the log answers that
-/// is left in the end, and the lines that a life began with are the first of those.
+/// However often a process ends and starts again: all that any of its runs wrote as replies is the beginning of what
+/// the log that is left in the end answers, and the lines that a run began with are the first lines of that log.
 #[tactic(auto, using(crate::proofs::Lives::silos_last))]
 pub fn silos_last()
     ensures { SilosLast }
@@ -40,7 +43,7 @@ pub fn lines_lead_on()
     ensures { LinesLeadOn }
 {}
 
-/// Nothing that lines lead to, or that is told for them, depends on the replies that were made before.
+/// Neither what lines lead to nor the text of their replies depends on replies that were made before.
 pub fn tells_as_ever()
     ensures { TellsAsEver }
 {}

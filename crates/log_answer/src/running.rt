@@ -1,4 +1,4 @@
-//! Every line of an input, in a log before anything is told for it.
+//! Every line of an input, answered, and in a log before any reply to it is written.
 
 ghost use Rattle.std.specs.Prelude.{◌≡◌, ◌≢◌, ◌⊎◌, ◌≤◌, [], false, true, List, ℕ, Ok, Option, Some, IfErr, IfOk, IfSome, OnErr, OnOk};
 ghost use Rattle.std.specs.Io.KnownBytes.{IsAtEnd, Keeps};
@@ -29,10 +29,10 @@ pub enum LogFault {
     /// A call of the reader failed.
     Read,
 
-    /// A call of the log's host failed, which tells, too. The log is to be asked nothing more.
+    /// A call of the log's host failed. The host also writes the replies. The log must not be used any more.
     Write,
 
-    /// Memory was refused, or a turn was given up for want of it, or a call of the storage failed.
+    /// Memory was refused, or a turn was abandoned for lack of it, or a call of the storage failed.
     Memory,
 
     /// The input has more than 1,073,741,824 lines, or takes more calls of the reader than that.
@@ -131,20 +131,20 @@ fn take_next<R: Read, W: Write, H: LogHost>(
     Ok(more)
 }
 
-/// Answers each line before the next is read, with at most so many deliveries behind it, and has it in the log, on the disk,
-/// before anything is told for it. Answers the number of lines, at most 1,073,741,824.
+/// Answers each line before it takes the next, followed by at most `most` deliveries, and has the line in the log, on
+/// the disk, before any reply to it is written. Returns the number of lines, at most 1,073,741,824.
 ///
-/// What one read brought is one batch: all of its lines are answered, and then they are kept and their text is told, before a
-/// read that may wait. A batch with more than 1,048,576 bytes of lines, or of texts, takes no line more. The log has each line, with
-/// at most 65,537 bytes of it. A silo that needn't keep its history drops it between two lines, from time to time: it answers as if
-/// it had kept all.
+/// The lines that one read brought are one batch: all of them are answered, then they are written to the log, and then
+/// their replies are written, before a read that may wait. A batch with more than 1,048,576 bytes of lines, or of
+/// replies, takes no more lines. The log has each line, with at most 65,537 bytes of it. A silo that needn't keep its
+/// history drops it between two lines, from time to time: it answers as if it had kept all.
 ///
 /// # Errors
 ///
-/// `Read` if a call of the reader failed, and `Write` if a call of the log's host failed, which it notes: pass one that notes none.
-/// `Memory` if memory was refused, a turn was given up or a call of the storage failed: nothing is told of that line's batch, and
-/// the silo may have stopped. `TooMuch` at more than 1,073,741,824 lines, or if one more call of the reader than that would be
-/// needed.
+/// `Read` if a call of the reader failed, and `Write` if a call of the log's host failed, which the host records: pass
+/// a host that has recorded no failure. `Memory` if memory was refused, a turn was abandoned or a call of the storage
+/// failed: no reply to that line's batch is written, and the silo may have stopped. `TooMuch` at more than
+/// 1,073,741,824 lines, or if one more call of the reader than that would be needed.
 pub fn answer_logged<R: Read, W: Write, H: LogHost, S: GrainStorage, L: GrainLogic>(
     alloc: Global,
     input: &mut Input<R>,

@@ -14,7 +14,8 @@ use log_host::LogPlace;
 use log_text::{fault_behind, next_asked, next_batch, spell, sum_after};
 use std::alloc::{AllocError, Global};
 
-/// What a start made of a log: the place behind its last batch, how many bytes its batches have, and how many lines were answered.
+/// What a start made of a log: the place after its last batch, how many bytes its batches have, and how many lines were
+/// answered.
 #[derive(Clone, Copy, Debug, PartialEq, Eq)]
 pub struct Again {
     pub place: LogPlace,
@@ -25,13 +26,15 @@ pub struct Again {
 /// Why a log wasn't answered again.
 #[derive(Clone, Copy, Debug, PartialEq, Eq)]
 pub enum AgainFault {
-    /// Memory was refused, or a turn was given up for want of it, or a call of the storage failed.
+    /// Memory was refused, or a turn was abandoned for lack of it, or a call of the storage failed.
     Memory,
 
-    /// What stands behind the last batch is refused; so many lines stand before the one at fault.
+    /// What follows the last batch is refused. The number says how many lines come before the one at fault, marks
+    /// included.
     Refused(usize),
 
-    /// For a batch something else would be told than was; so many lines stand before its mark.
+    /// The replies to a batch would now differ from what its mark records. The number says how many lines come before
+    /// that mark, earlier marks included.
     Otherwise(usize),
 }
 
@@ -45,7 +48,7 @@ impl From<AllocError> for AgainFault {
     }
 }
 
-/// Answers the lines of one batch, and puts what they are told in place of another text. Answers how many they are.
+/// Answers the lines of one batch, and replaces `text` by the text of their replies. Returns the number of lines.
 fn answer_asked<S: GrainStorage, L: GrainLogic>(
     alloc: Global,
     tools: &mut LineTools,
@@ -84,8 +87,8 @@ fn says(told: &[u8], sum: u64) -> bool
     told == spell(sum).as_slice()
 }
 
-/// What a start made of a log's bytes whose batches end at a place, behind so many lines and marks, and before the rest; or which line
-/// of the rest is at fault.
+/// What a start made of a log's bytes whose batches have this many lines and marks and end at `place`, before `rest`.
+/// If `rest` is refused, the `Err` says how many lines come before the one at fault, marks included.
 fn end_again(
     place: LogPlace,
     bytes: &[u8],
@@ -111,16 +114,18 @@ fn end_again(
     }
 }
 
-/// Answers the lines of a log's bytes once more, from the place before them, which stand behind its head. Nothing is told. What each
-/// mark says was told is compared with what would be.
+/// Answers the lines of a log's bytes once more. The bytes are those after the log's head, and `place` is the place
+/// before them. No reply is written: the sum of the replies that each mark records is compared with the sum of what
+/// would be written now.
 ///
-/// What stands behind the last batch is to be cut off before the log goes on at the place that is answered. A silo that needn't keep its
-/// history drops it between two lines, from time to time.
+/// The caller must cut off what follows the last batch, before the log goes on at the place that is returned. A silo
+/// that needn't keep its history drops it between two lines, from time to time.
 ///
 /// # Errors
 ///
-/// `Otherwise` at the first mark that says another sum; `Refused` if all marks say theirs and what stands behind them is refused;
-/// `Memory` if memory was refused, a turn was given up or a call of the storage failed. The silo is not to be used then.
+/// `Otherwise` at the first mark that records another sum; `Refused` if all marks record theirs and what follows them
+/// is refused; `Memory` if memory was refused, a turn was abandoned or a call of the storage failed. The silo must not
+/// be used then.
 pub fn answer_again<S: GrainStorage, L: GrainLogic>(
     alloc: Global,
     silo: &mut AnsweringSilo<S, L>,

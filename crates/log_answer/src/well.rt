@@ -6,7 +6,7 @@ ghost use Rattle.answer_model.specs.Certain.{went_well};
 
 use silo_event::Step;
 
-/// Whether the storage didn't fail in the step, and no turn is given up by it.
+/// Whether the storage didn't fail in the step, and the step abandons no turn.
 fn went_well(step: &Step) -> bool
     ensures { result ≡ went_well step.now }
 {

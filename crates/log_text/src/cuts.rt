@@ -15,7 +15,7 @@ fn break_at(bytes: &[u8]) -> Option<usize>
     memchr(b'\n', bytes)
 }
 
-/// The first line, and what stands behind its LF.
+/// The first line, and what follows its LF.
 pub(crate) fn cut_line(bytes: &[u8]) -> Option<(&[u8], &[u8])>
     ensures { CutsLine bytes.now (option_map (λ cut. (cut.0.now, cut.1.now)) result) }
 {
@@ -25,7 +25,7 @@ pub(crate) fn cut_line(bytes: &[u8]) -> Option<(&[u8], &[u8])>
     Some((&bytes[..at], &bytes[at + 1..]))
 }
 
-/// What stands behind the prefix.
+/// What follows the prefix.
 pub(crate) fn behind<'a>(prefix: &[u8], bytes: &'a [u8]) -> Option<&'a [u8]>
     ensures { Strips prefix.now bytes.now (option_map (λ rest. rest.now) result) }
 {

@@ -53,7 +53,7 @@ pub fn push_head(text: &mut Vec<u8>, words: &[u8], number: u64) -> Result<(), Al
     Ok(())
 }
 
-/// What stands behind the head's words.
+/// What follows the head's words, and the `of ` after them.
 fn behind_words<'a>(words: &[u8], bytes: &'a [u8]) -> Option<&'a [u8]>
     ensures { Strips (head_start words.now) bytes.now (option_map (λ rest. rest.now) result) }
 {
@@ -66,7 +66,7 @@ fn behind_words<'a>(words: &[u8], bytes: &'a [u8]) -> Option<&'a [u8]>
     behind(b"of ", rest)
 }
 
-/// The number and the sum in what may be a head with these words, and what stands behind it.
+/// The number and the sum in what may be a head with these words, and what follows it.
 fn head_parts<'a>(words: &[u8], bytes: &'a [u8]) -> Option<(&'a [u8], &'a [u8], &'a [u8])>
     ensures { ReadsHead words.now bytes.now (option_map (λ head. (head.0.now, head.1.now, head.2.now)) result) }
 {
@@ -85,7 +85,7 @@ fn head_parts<'a>(words: &[u8], bytes: &'a [u8]) -> Option<(&'a [u8], &'a [u8], 
     Some((number, sum, after))
 }
 
-/// The number in the head of a log that was begun for a silo with these words, and what stands behind the head.
+/// The number in the head of a log that was begun for a silo with these words, and what follows the head.
 pub fn cut_head<'a>(words: &[u8], bytes: &'a [u8]) -> Option<(&'a [u8], &'a [u8])>
     ensures { CutsHead words.now bytes.now (option_map (λ cut. (cut.0.now, cut.1.now)) result) }
 {

@@ -10,7 +10,7 @@ pub fn prefixes_read()
     ensures { PrefixesRead }
 {}
 
-/// What was written is read, whatever stands behind it.
+/// What was written is read, whatever follows it.
 #[tactic(auto, using(crate::proofs::Written::written_reads))]
 pub fn written_reads()
     ensures { WrittenReads }
@@ -28,19 +28,19 @@ pub fn prefixes_pass()
     ensures { PrefixesPass }
 {}
 
-/// Nor is what was written and a part of one batch behind it.
+/// Nor is what was written, if a part of one batch follows it.
 #[tactic(auto, using(crate::proofs::Passes::ends_pass))]
 pub fn ends_pass()
     ensures { EndsPass }
 {}
 
-/// What is cut off has no batch behind something else.
+/// What is cut off has no batch after something else.
 #[tactic(auto, using(crate::proofs::Kept::batches_kept))]
 pub fn batches_kept()
     ensures { BatchesKept }
 {}
 
-/// A batch behind something that isn't one is refused.
+/// A batch after something that isn't one is refused.
 #[tactic(auto, using(crate::proofs::Kept::lost_refused))]
 pub fn lost_refused()
     ensures { LostRefused }

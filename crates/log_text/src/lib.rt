@@ -1,8 +1,9 @@
 //! The text of a log: what a silo was asked, in batches, each closed by a mark.
 //!
-//! A layer above may rely on this: what was written whole is read, whatever a crash left behind it; the first bytes of a log
-//! read as its first batches; and a batch that doesn't fit, with another one behind it, is told by the number of its line. What
-//! is written is in `specs/Batches.antt`, what is read in `specs/Reading.antt`, and the laws of both in `specs/Laws.antt`.
+//! A layer above may rely on this: what was written whole is read, whatever a crash left after it; the first bytes of a
+//! log read as its first batches; and a batch that doesn't fit, followed by another one, is refused, with the number of
+//! lines before the one at fault. What is written is in `specs/Batches.antt`, what is read in `specs/Reading.antt`, and
+//! the laws of both in `specs/Laws.antt`.
 #![tactic(auto)]
 
 mod cuts;

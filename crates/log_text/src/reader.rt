@@ -10,7 +10,7 @@ ghost use Rattle.log_text.specs.Answers.{Closes, CutsAsked, ReadsMark, Strips, T
 use crate::cuts::{behind, cut_line, is_same};
 use crate::sum::{spell, sum_after_both};
 
-/// What stands behind the head of a mark.
+/// What follows the head of a mark.
 fn behind_head<'a>(name: &[u8], line: &'a [u8]) -> Option<&'a [u8]>
     ensures { Strips (mark_head name.now) line.now (option_map (λ rest. rest.now) result) }
 {
@@ -23,7 +23,7 @@ fn behind_head<'a>(name: &[u8], line: &'a [u8]) -> Option<&'a [u8]>
     behind(b" ", rest)
 }
 
-/// What stands behind the number of the bytes before it, in a mark that has so many.
+/// What follows the number of the bytes before a mark, if the mark has the number `before`.
 fn behind_place<'a>(name: &[u8], before: usize, line: &'a [u8]) -> Option<&'a [u8]>
     ensures { Strips (mark_place own_sums name.now before) line.now (option_map (λ rest. rest.now) result) }
 {
@@ -33,7 +33,7 @@ fn behind_place<'a>(name: &[u8], before: usize, line: &'a [u8]) -> Option<&'a [u
     behind(&spell(before as u64), rest)
 }
 
-/// What a mark of these bytes says was told, and its sum.
+/// The sum of the replies that a mark of these bytes records, and the mark's own sum.
 fn mark_parts<'a>(name: &[u8], asked: &[u8], line: &'a [u8]) -> Option<(&'a [u8], &'a [u8])>
     ensures { ReadsMark name.now asked.now line.now (option_map (λ mark. (mark.0.now, mark.1.now)) result) }
 {
@@ -52,7 +52,7 @@ fn mark_parts<'a>(name: &[u8], asked: &[u8], line: &'a [u8]) -> Option<(&'a [u8]
     Some((told, sum))
 }
 
-/// What the mark of these bytes says was told, and the sum behind it.
+/// The sum of the replies that the mark of these bytes records, and the sum after the mark.
 fn close<'a>(name: &[u8], sum: u64, asked: &[u8], line: &'a [u8]) -> Option<(&'a [u8], u64)>
     ensures { Closes name.now sum asked.now line.now (option_map (λ mark. (mark.0.now, mark.1)) result) }
 {
@@ -77,8 +77,8 @@ fn is_asked(line: &[u8]) -> bool
     }
 }
 
-/// A batch that was read: the bytes of its lines, what its mark says was told so far, the sum behind it, and what stands
-/// behind its mark.
+/// A batch that was read: the bytes of its lines, the sum of all replies so far that its mark records, the sum after
+/// the batch, and what follows its mark.
 #[derive(Clone, Copy)]
 pub struct NextBatch<'a> {
     pub asked: &'a [u8],
@@ -87,7 +87,7 @@ pub struct NextBatch<'a> {
     pub behind: &'a [u8],
 }
 
-/// The bytes of the first lines that were asked, the line behind them, and what stands behind its LF.
+/// The bytes of the first lines that were asked, the line after them, and what follows its LF.
 fn asked_part(bytes: &[u8]) -> Option<(&[u8], &[u8], &[u8])>
     ensures { CutsAsked bytes.now (option_map (λ part. (part.0.now, part.1.now, part.2.now)) result) }
 {
@@ -124,7 +124,7 @@ pub fn next_batch<'a>(name: &[u8], sum: u64, bytes: &'a [u8]) -> Option<NextBatc
     })
 }
 
-/// The first line that was asked of a batch's bytes, and those behind it.
+/// The first line that was asked in a batch's bytes, and the bytes after it.
 pub fn next_asked(asked: &[u8]) -> Option<(&[u8], &[u8])>
     ensures { TakesAsked asked.now (option_map (λ cut. (cut.0.now, cut.1.now)) result) }
 {
@@ -196,8 +196,8 @@ fn count_asked(bytes: &[u8]) -> usize
     }
 }
 
-/// The number of whole lines before the one that is at fault, if what stands behind the last batch is refused: if two
-/// marks of the log stand there, or one in another place. Otherwise it is the end of a batch that was never acknowledged.
+/// The number of whole lines before the one that is at fault, if what follows the last batch is refused: if it has two
+/// or more marks of the log, or one in the wrong place. Otherwise it is the end of a batch that was never acknowledged.
 pub fn fault_behind(name: &[u8], bytes: &[u8]) -> Option<usize>
     ensures { result ≡ fault_in own_sums name.now bytes.now }
 {

@@ -5,7 +5,7 @@ ghost use Rattle.log_text.specs.Sums.{after, spelled};
 
 use std::hash::{DefaultHasher, Hasher};
 
-/// The sum behind the bytes, by the sum before them. It finds accidents, and isn't meant to find a forger.
+/// The sum after the bytes, by the sum before them. It detects accidents, and isn't meant to detect a forger.
 #[tactic(auto, unfolding(crate::specs::Sums::after))]
 pub fn sum_after(sum: u64, bytes: &[u8]) -> u64
     ensures { result ≡ after sum bytes.now }
@@ -16,7 +16,7 @@ pub fn sum_after(sum: u64, bytes: &[u8]) -> u64
     hasher.finish()
 }
 
-/// The sum behind two parts.
+/// The sum after two parts, by the sum before them.
 #[tactic(auto, using(crate::proofs::Sums::written_both), unfolding(crate::specs::Sums::after))]
 pub(crate) fn sum_after_both(sum: u64, first: &[u8], second: &[u8]) -> u64
     ensures { result ≡ after sum (first.now ++ second.now) }

@@ -19,7 +19,7 @@ fn push_line_parts(text: &mut Vec<u8>, line: &[u8]) -> Result<(), AllocError>
     Ok(())
 }
 
-/// Adds a line that is asked, behind the others of its batch. An `Err` changes nothing.
+/// Adds a line that is asked, after the others of its batch. An `Err` changes nothing.
 pub fn push_line(text: &mut Vec<u8>, line: &[u8]) -> Result<(), AllocError>
     ensures ok { OnOk result (text.new.items ≡ text.old.items ++ line_text line.now) }
     ensures err { OnErr result (text.new.items ≡ text.old.items) }
@@ -62,8 +62,9 @@ fn push_mark_parts(text: &mut Vec<u8>, name: &[u8], sum: u64, told: u64) -> Resu
     Ok(next)
 }
 
-/// Closes a batch: adds the mark of all lines that the text has, which are those of one batch, and answers the sum behind
-/// it. The sum before it is that of the batch before, and `told` is the sum of all that was told. An `Err` changes nothing.
+/// Closes a batch: adds the mark of all lines that the text has, which are those of one batch, and returns the sum
+/// after it. `sum` is the sum after the previous batch, and `told` is the sum of all replies so far. An `Err` changes
+/// nothing.
 pub fn push_mark(text: &mut Vec<u8>, name: &[u8], sum: u64, told: u64) -> Result<u64, AllocError>
     ensures sum { IfOk result (λ next. next ≡ sum_behind own_sums name.now sum text.old.items (spelled told)) }
     ensures ok { OnOk result (text.new.items

@@ -76,10 +76,10 @@ fn serve_lanes<
     Ok(report)
 }
 
-/// Serves lines that were read, by so many threads, 1 to 64, over no rows at the start. Requests go to
-/// the lane of their client, ticks and sweeps to nobody's, lanes in the order of their first lines; a line
-/// that no lane gives is refused. A gate that watches is told of each turn before its body runs. Grains, rows and
-/// clients are found by hashes from the start's seed, on which nothing that is answered depends.
+/// Serves lines that were read, by the given number of threads, 1 to 64, over no rows at the start. Requests go to the
+/// lane of their client, ticks and sweeps to nobody's, lanes in the order of their first lines; a line that no lane
+/// gives is refused. A gate that watches is called for each turn before the turn's body runs. Grains, rows and clients
+/// are found by hashes from the start's seed, on which nothing that is answered depends.
 ///
 /// # Errors
 ///

@@ -35,14 +35,14 @@ fn cause_of_service(fault: ServiceFault) -> Cause
     }
 }
 
-/// What was served, and what is to be told of it.
+/// What was served, and the diagnostics about it.
 #[derive(Drop)]
 struct ToldInput<L: GrainLogic> {
     served: ServedInput<L>,
     told: String,
 }
 
-/// Reads all lines of the input, and serves them; with what is to be told of them.
+/// Reads all lines of the input, and serves them. Returns what was served, with the diagnostics about it.
 fn serve_reader<
     H: AllocGlobal + Threads + Wait + Sync,
     L: GrainLogic + Copy + Send,
@@ -82,9 +82,9 @@ fn serve_reader<
     Ok(ToldInput { served, told })
 }
 
-/// Writes the journal of no step to the file at the path, if one is given; reads all lines of the input and serves them by
-/// so many threads, 1 to 64, over no rows; writes their journal to that file; and then writes what the lines are answered.
-/// Answers what is to be told of them.
+/// Writes the journal of no step to the file at the path, if one is given; reads all lines of the input and serves them
+/// by the given number of threads, 1 to 64, over no rows; writes their journal to that file; and then writes what the
+/// lines are answered. Returns the diagnostics that were requested.
 ///
 /// # Errors
 ///

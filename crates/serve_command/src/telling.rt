@@ -1,4 +1,4 @@
-//! The text of what is told of lines that were served.
+//! The text of the diagnostics about lines that were served.
 
 ghost use Rattle.std.specs.Prelude.{◌≡◌, ◌++◌, [], if◌then◌else◌, IfOk, length, string_bytes};
 ghost use Rattle.serve_command.specs.Telling.{asks_to_tell};
@@ -12,14 +12,14 @@ use line_service::{push_counts, push_reasons};
 use silo_words::Telling;
 use std::alloc::{AllocError, Global};
 
-/// Whether something is to be told.
+/// Whether any diagnostics are requested.
 pub fn asks_to_tell(telling: Telling) -> bool
     ensures { result ≡ asks_to_tell telling }
 {
     telling.explain_lines || telling.summary
 }
 
-/// Which of the lines made no step, and why, if that is to be told.
+/// Which of the lines made no step, and why, if that is requested.
 pub fn reasons_text(alloc: Global, telling: Telling, lines: &[Line]) -> Result<String, AllocError>
     ensures { IfOk result (λ text. string_bytes text ≡ (if telling.explain_lines then reasons_behind 0 lines.now else [])) }
 {
@@ -30,7 +30,7 @@ pub fn reasons_text(alloc: Global, telling: Telling, lines: &[Line]) -> Result<S
     Ok(text)
 }
 
-/// The text, and then how many lines, answers, refusals by code and steps there are, if that is to be told.
+/// The text, and then how many lines, answers, refusals by code and steps there are, if that is requested.
 pub fn with_counts<L: GrainLogic>(
     alloc: Global,
     telling: Telling,

@@ -38,13 +38,15 @@ pub fn refused_by_code()
     ensures { RefusedByCode }
 {}
 
-/// A grain is told why what it sent was refused, and nothing else of what it sent.
+/// If what a grain sent is refused, the grain gets a reply that says why. It gets no other reply to
+/// what it sent.
 #[tactic(auto, using(crate::proofs::Refusals::grains_are_told))]
 pub fn grains_are_told()
     ensures { GrainsAreTold }
 {}
 
-/// A poke leaves the row one version on with its state, tells the version, and touches no entry.
+/// A poke leaves the row one version on with its state, replies with that version, and touches no
+/// entry.
 pub fn poke_is_stored()
     ensures { PokeIsStored }
 {}
@@ -66,14 +68,14 @@ pub fn reload_reads()
     ensures { ReloadReads }
 {}
 
-/// A write or a clearing that finds another version than its entry's touches no row, is told so by
-/// 54, and ends the activation: what waits there waits for a new one.
+/// A write or a clearing that finds another version than its entry's touches no row, is answered by 54,
+/// and ends the activation: what waits there waits for a new one.
 pub fn stale_store_ends()
     ensures { StaleStoreEnds }
 {}
 
-/// A status tells how many activations the tenant has, the clock, and how many requests were
-/// accepted.
+/// The reply to a status has the number of the tenant's activations, the clock, and the number of
+/// requests that were accepted: so it is after two calls of a new counter.
 pub fn status_tells()
     ensures { StatusTells }
 {}
@@ -95,13 +97,13 @@ pub fn delivers_at_most()
 {}
 
 /// If n isn't 0 and something that the tenant's grains sent is left, the oldest of it is delivered
-/// behind what is asked.
+/// after what is asked.
 pub fn delivered_behind()
     ensures { DeliveredBehind }
 {}
 
-/// Exactly the steps that lanes give, with no mark of a failure, are asked; and exactly those went
-/// well in which the storage didn't fail and by which no turn is given up.
+/// Exactly the steps that lanes give, with no mark of a failure, are asked; and exactly those went well
+/// in which the storage didn't fail and which abandon no turn.
 #[tactic(auto, using(crate::proofs::AskedSteps::asked_steps))]
 pub fn asked_steps()
     ensures { AskedSteps }

@@ -66,8 +66,8 @@ pub fn answered_in_parts()
     ensures { StepAnswersInParts }
 {}
 
-/// If no storage call fails, the answers are told by the steps: by the whole and by each tenant's
-/// machine alike.
+/// If no storage call fails, the steps determine the answers: the whole and each tenant's machine give
+/// the same ones at the tenant's steps.
 #[tactic(auto, using(crate::proofs::AnswersInParts::runs_answer))]
 pub fn runs_answer()
     ensures { RunsAnswer }
@@ -166,7 +166,7 @@ pub fn readers_together()
 {}
 
 /// A sweep takes the idle entries that are due, the age of their kind after they were last used and not before the
-/// moment until which they stay; leaves every other, and leaves every row: so the laws are said of a silo that lets go of
+/// moment until which they stay; leaves every other, and leaves every row: so the laws are said of a silo that frees
 /// what isn't used.
 pub fn idle_goes()
     ensures { IdleGoes }
@@ -229,7 +229,8 @@ pub fn resumes_as_it_was()
     ensures { ResumesAsItWas }
 {}
 
-/// Where one journal leads, and another leads on from what is kept there, both lead, one behind the other.
+/// If one journal leads to a whole where all is idle, and another leads on from what is kept of it, then the two, one
+/// after the other, lead to where the second leads, with the replies of both.
 #[tactic(auto, using(crate::proofs::Segments::segments_lead))]
 pub fn segments_lead()
     ensures { SegmentsLead }

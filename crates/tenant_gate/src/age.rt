@@ -31,7 +31,7 @@ impl Model for Age {
 }
 
 impl Age {
-    /// The age of so many milliseconds, or nothing if they are 0 or above 86,400,000.
+    /// The age of this many milliseconds, or nothing if they are 0 or above 86,400,000.
     pub fn new(milliseconds: u64) -> Option<Age>
         ensures { SomeIff result (IsAge milliseconds) milliseconds }
     {

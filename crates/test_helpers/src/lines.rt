@@ -30,7 +30,7 @@ fn add_step(
     Ok(())
 }
 
-/// The steps of the lines behind the first so many.
+/// The steps of the lines after the first `first` lines.
 pub fn steps_behind(alloc: Global, lines: &str, first: usize) -> Result<Vec<Step>, Fail> {
     let mut scratch = LineScratch::new(alloc);
     let mut steps = Vec::new(alloc);

@@ -5,7 +5,7 @@ use std::thread;
 
 const POLLS: u32 = 10_000_000;
 
-/// Waits until so many have come, and notes a miss.
+/// Threads wait here until `wanted` of them have come. Records a miss, if a thread stops waiting before.
 #[derive(Drop)]
 pub struct Meeting {
     wanted: u64,

@@ -9,7 +9,7 @@ use std::alloc::Global;
 use std::test::Fail;
 use tenant_gate::{Age, Limits, TenantTable};
 
-/// These tenants, each with so many activations of 4 waiting requests.
+/// These tenants, each limited to this many activations, with 4 waiting requests each.
 fn tenants(alloc: Global, names: &[&str], activations: u32) -> Result<TenantTable, Fail> {
     let mut list = Vec::new(alloc);
     for name in names {
@@ -40,7 +40,7 @@ pub struct Ages<'a> {
     pub kinds: &'a [(&'a str, u64)],
 }
 
-/// A setup of these tenants, each with so many activations of 4 waiting requests.
+/// A setup of these tenants, each limited to this many activations, with 4 waiting requests each.
 pub fn setup_over<L: GrainLogic + Drop>(
     alloc: Global,
     names: &[&str],

@@ -1,4 +1,4 @@
-//! The lanes that the lines of an input ask for.
+//! The lanes that the lines of an input make up.
 
 use client_lanes::Lane;
 use grain_id::{Caller, GrainId, HashSeed};
@@ -84,7 +84,7 @@ fn are_lanes_of_mixed(alloc: Global, asked: &LanesAndRefusals) -> Result<bool, F
     Ok(in_order && have_their_lines(&asked.lanes) && asked.refusals.is_empty())
 }
 
-/// Whether the mixed lines ask for their lanes.
+/// Whether the mixed lines make up their lanes.
 fn mixed_lines_ask(alloc: Global) -> Result<bool, Fail> {
     let asked = asked_by(alloc, HashSeed::fixed(), mixed(alloc)?)?;
     let found = are_lanes_of_mixed(alloc, &asked);

@@ -1,4 +1,4 @@
-//! As many threads serve lanes as the words ask for, and 4 audit.
+//! As many threads serve lanes as the command line requests, and 4 threads audit.
 
 use crate::runs::{file_of, words_of};
 use grain_id::{GrainId, Tenant};
@@ -18,7 +18,7 @@ const MANY: u32 = 10_000_000;
 /// The same where they don't come.
 const FEW: u32 = 100_000;
 
-/// Waits until so many have come, and notes a miss.
+/// Threads wait here until `wanted` of them have come. Records a miss, if a thread stops waiting before.
 #[derive(Drop)]
 struct Meeting {
     wanted: u64,
@@ -48,7 +48,7 @@ impl Meeting {
         self.missed.store(true, Ordering::SeqCst);
     }
 
-    /// Whether so many were there at once.
+    /// Whether `wanted` or more have come, and no thread stopped waiting before.
     fn was_held(&self) -> bool {
         self.come.load(Ordering::SeqCst) >= self.wanted && !self.missed.load(Ordering::SeqCst)
     }
@@ -82,7 +82,8 @@ const CALLS: &str = concat!(
 const QUIET: &str =
     "silo-journal 1\nage 1\ntenant a 1 1\ntenant b 1 1\ntenant c 1 1\ntenant d 1 1\ntenant e 1 1\nclose 0\n";
 
-/// Whether the program does what the words ask for, and so many turns or tenants are at the gate at once.
+/// Runs the program with these words, and returns whether as many turns or tenants as the meeting wants are at the gate
+/// at once.
 fn meet<H: AllocGlobal + RandomSource + Threads + Wait + Sync>(
     rt: &H,
     words: &str,
@@ -108,7 +109,7 @@ fn meet<H: AllocGlobal + RandomSource + Threads + Wait + Sync>(
     Ok(meeting.was_held())
 }
 
-/// Whether so many turns or tenants are at a gate at once.
+/// Whether `wanted` turns or tenants are at a gate at once.
 fn so_many_meet<H: AllocGlobal + RandomSource + Threads + Wait + Sync>(
     rt: &H,
     words: &str,

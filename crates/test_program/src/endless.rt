@@ -64,7 +64,7 @@ impl DataFiles for EndlessFile {
     fn set_sync(&mut self, _sync: bool) {}
 }
 
-/// Whether the command ends with status 1, and tells of too much input and writes nothing.
+/// Whether the command ends with status 1, prints that there is too much input, and writes nothing.
 fn is_too_much<H: AllocGlobal + RandomSource + Threads + Wait + Sync>(
     rt: &H,
     command: &str,

@@ -73,7 +73,7 @@ fn folder_of(alloc: Global, begun: Option<Vec<u8>>) -> Folder {
     }
 }
 
-/// What the log has: what it was begun with, and what was written behind that.
+/// What the log has: what it was begun with, and what was written after that.
 fn bytes_in(alloc: Global, folder: &Folder) -> Result<Vec<u8>, Fail> {
     let mut bytes = Vec::new(alloc);
     if let Some(begun) = &folder.log.begun {

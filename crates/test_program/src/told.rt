@@ -1,4 +1,4 @@
-//! What is told on standard error of the lines that were served.
+//! What is printed on standard error about the lines that were served.
 
 use crate::runs::{file_of, left_by};
 use std::random::RandomSource;
@@ -43,7 +43,7 @@ const BOTH: &str = concat!(
     "silo: lines: 5\nsilo: answers: 1\nsilo: refusals 10: 2\nsilo: refusals 60: 1\nsilo: steps: 8\n"
 );
 
-/// Whether these words serve the lines well, with the same answers, and tell this.
+/// Whether these words serve the lines well, with the same answers, and print this text on standard error.
 fn tells<H: AllocGlobal + RandomSource + Threads + Wait + Sync>(
     rt: &H,
     words: &str,

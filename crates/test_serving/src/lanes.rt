@@ -46,7 +46,7 @@ const FIRST: (&str, &str) = (
 /// A lane of red's second one.
 const SECOND: (&str, &str) = ("red/c2", r#"{"op":"status","from":"red/c2","id":0}"#);
 
-/// A lane of nobody: two ticks, of which the second is behind the clock, and a sweep.
+/// A lane of nobody: two ticks, of which the second is earlier than the clock, and a sweep.
 const NOBODYS: (&str, &str) = (
     "",
     r#"{"op":"tick","now":5}
@@ -150,7 +150,7 @@ const LOADS: &str = r#"{"op":"load","grain":"counter/red:a","failed":true}
 {"op":"load","grain":"counter/red:a","failed":true}
 "#;
 
-/// Whether a client asks for the step at that place.
+/// Whether a client requests the step at that place.
 fn is_asked(journal: &[Step], place: usize) -> bool {
     match journal.get(place) {
         Some(step) => step.asker().is_some(),
@@ -158,7 +158,7 @@ fn is_asked(journal: &[Step], place: usize) -> bool {
     }
 }
 
-/// Two steps failed, and a client asks for the third, and not for the first.
+/// Two steps failed. A client requests the third step, and nobody requests the first.
 #[test]
 fn failed_loads_are_counted(rt: HostRuntime) -> Result<(), Fail> {
     let journal = steps_of(rt.alloc(), LOADS)?;
@@ -173,7 +173,7 @@ fn answered(alloc: Global, lanes: &[Lane], replies: &[Reply]) -> Result<Vec<Vec<
     Ok(answers(alloc, HashSeed::new(7), lanes, replies)?)
 }
 
-/// A refusal that a party is told.
+/// A reply to a party, with a refusal.
 fn refused(recipient: Party) -> Reply {
     Reply {
         recipient,
@@ -181,14 +181,14 @@ fn refused(recipient: Party) -> Reply {
     }
 }
 
-/// Adds what a client is told.
+/// Adds a reply to a client.
 fn add_told(alloc: Global, replies: &mut Vec<Reply>, caller: &str, id: u64) -> Result<(), Fail> {
     let caller = Caller::read(alloc, caller)?;
     replies.push(refused(Party::Client(caller, id)))?;
     Ok(())
 }
 
-/// What the two clients and a grain are told.
+/// Adds the replies to the two clients and a grain.
 fn add_replies(alloc: Global, replies: &mut Vec<Reply>) -> Result<(), Fail> {
     add_told(alloc, replies, "red/c2", 7)?;
     let relay = GrainId::read(alloc, "relay/red:r")?;

@@ -1,4 +1,4 @@
-//! Lanes that are served, and what is seen of the report: each report is looked at and let go in one function.
+//! Lanes that are served, and what is seen of the report: each report is looked at and dropped in one function.
 
 use crate::journals::{begun_in, closed_in, most_open};
 use grain_id::{HashSeed, Kind};
@@ -17,7 +17,7 @@ use worker_host::{Lane, ServeFault, ServeReport, TurnGate, distinct, serve_seede
 /// The code of a turn that was abandoned.
 const ABANDONED: u8 = 70;
 
-/// What stands for a turn that was abandoned among numbers that are told.
+/// What stands for a turn that was abandoned, among the numbers of replies.
 pub const LEFT: i64 = -70;
 
 /// The number that a value is, or -1 if it is another one.
@@ -28,7 +28,7 @@ fn int_of(value: &Datum) -> i64 {
     }
 }
 
-/// The number that is told, `LEFT` if the turn was abandoned, or -1 if another value or fault is.
+/// The number that a reply has: `LEFT` if the turn was abandoned, or -1 if the reply is another value or fault.
 fn number_of(alloc: Global, reply: &Reply) -> Result<i64, Fail> {
     match &reply.outcome {
         Ok(state) => {
@@ -41,7 +41,7 @@ fn number_of(alloc: Global, reply: &Reply) -> Result<i64, Fail> {
     }
 }
 
-/// Adds the numbers that are told in one lane.
+/// Adds the numbers of the replies in one lane.
 fn add_numbers(alloc: Global, replies: &[Reply], all: &mut Vec<i64>) -> Result<(), Fail> {
     for reply in replies {
         all.push(number_of(alloc, reply)?)?;
@@ -49,7 +49,7 @@ fn add_numbers(alloc: Global, replies: &[Reply], all: &mut Vec<i64>) -> Result<(
     Ok(())
 }
 
-/// The numbers that are told in each lane, all together, ascending.
+/// The numbers of the replies in each lane, all together, ascending.
 fn numbers_of(alloc: Global, answers: &[Vec<Reply>]) -> Result<Vec<i64>, Fail> {
     let mut all = Vec::new(alloc);
     for replies in answers {
@@ -59,7 +59,7 @@ fn numbers_of(alloc: Global, answers: &[Vec<Reply>]) -> Result<Vec<i64>, Fail> {
     Ok(all)
 }
 
-/// Adds a line of the numbers under which a client is told something.
+/// Adds a line of the ids of the requests to which a client has replies.
 fn add_ids(replies: &[Reply], text: &mut String) -> Result<(), Fail> {
     for reply in replies {
         if let Party::Client(_, id) = &reply.recipient {
@@ -70,7 +70,7 @@ fn add_ids(replies: &[Reply], text: &mut String) -> Result<(), Fail> {
     Ok(())
 }
 
-/// Those numbers, a line for each lane.
+/// Those ids, a line for each lane.
 fn ids_of(alloc: Global, answers: &[Vec<Reply>]) -> Result<String, Fail> {
     let mut text = String::new(alloc);
     for replies in answers {
@@ -82,9 +82,9 @@ fn ids_of(alloc: Global, answers: &[Vec<Reply>]) -> Result<String, Fail> {
 /// What is seen of a report.
 #[derive(Drop)]
 pub struct Seen {
-    /// The numbers under which each client is told something, a line for each lane.
+    /// The ids of the requests to which each client has replies, a line for each lane.
     pub ids: String,
-    /// The numbers that are told, ascending.
+    /// The numbers of the replies, ascending.
     pub numbers: Vec<i64>,
     /// The grains at which turns begin.
     pub begun: Vec<u64>,
@@ -174,7 +174,7 @@ pub struct Served<'a> {
     pub workers: usize,
 }
 
-/// Those of red, by so many workers.
+/// The lanes of red, served by this many workers.
 pub fn red_by(workers: usize) -> Served<'static> {
     Served {
         tenants: &["red"],
@@ -184,7 +184,7 @@ pub fn red_by(workers: usize) -> Served<'static> {
     }
 }
 
-/// Those of red and blue, by so many workers.
+/// The lanes of red and blue, served by this many workers.
 pub fn both_by(workers: usize) -> Served<'static> {
     Served {
         tenants: &["red", "blue"],

@@ -11,7 +11,7 @@ use test_helpers::meeting::Meeting;
 use test_helpers::verdicts::holds;
 use worker_host::{FreeGate, LaneFault, ServeFault};
 
-/// Fails, unless these numbers are told.
+/// Fails, unless the replies have these numbers.
 fn are_told(seen: Result<Seen, Fail>, numbers: &[i64]) -> Result<(), Fail> {
     let seen = seen?;
     let told = seen.numbers.as_slice() == numbers;
@@ -19,7 +19,7 @@ fn are_told(seen: Result<Seen, Fail>, numbers: &[i64]) -> Result<(), Fail> {
     holds(told)
 }
 
-/// Fails, unless each client is told something under these numbers, a line for each lane, and these numbers are told.
+/// Fails, unless each client has replies with these ids, a line for each lane, and the replies have these numbers.
 fn are_told_under(seen: Result<Seen, Fail>, ids: &str, numbers: &[i64]) -> Result<(), Fail> {
     let seen = seen?;
     let told = seen.ids.as_str() == ids && seen.numbers.as_slice() == numbers;
@@ -27,7 +27,8 @@ fn are_told_under(seen: Result<Seen, Fail>, ids: &str, numbers: &[i64]) -> Resul
     holds(told)
 }
 
-/// Serves these lanes where turns meet: fails, unless they do or miss each other as it says, and these numbers are told.
+/// Serves these lanes where turns meet. Fails, unless the turns meet or miss each other, as `met` says, and the replies
+/// have these numbers.
 fn is_met<R: AllocGlobal + Threads + Wait + Sync>(
     rt: &R,
     served: Served,
@@ -110,7 +111,7 @@ static THREE_STEPS: [(&str, &str); 1] = [(
 "#,
 )];
 
-/// Serves that lane by so many workers: fails, unless it is answered in its order. The status is no number.
+/// Serves that lane by this many workers. Fails, unless it is answered in its order. The status reply isn't a number.
 fn are_in_order<R: AllocGlobal + Threads + Wait + Sync>(
     rt: &R,
     workers: usize,
@@ -188,7 +189,7 @@ fn lanes_are_answered_alike_by_each_seed(rt: HostRuntime) -> Result<(), Fail> {
     Ok(())
 }
 
-/// A lane that adds 3 to a counter, lets it rest, and asks for its value.
+/// A lane that adds 3 to a counter, lets it rest, and gets its value.
 static REST: [(&str, &str); 1] = [(
     "red/c1",
     r#"{"op":"call","from":"red/c1","id":1,"grain":"counter/red:a","method":"add","args":{"by":3}}

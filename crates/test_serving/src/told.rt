@@ -1,4 +1,4 @@
-//! Of which turns a gate is told, and how many are open at once.
+//! The turns for which a gate is called, and how many turns are open at once.
 
 use crate::asked::{FOUR, calls, lane, lanes_of};
 use crate::journals::{code_of, grains_of};
@@ -13,7 +13,7 @@ use std::thread::Threads;
 use test_helpers::verdicts::holds;
 use worker_host::{FreeGate, Lane, TurnGate};
 
-/// A gate that keeps of which turns it was told, as far as it has room.
+/// A gate that records the turns for which it was called, as far as it has room.
 #[derive(Drop)]
 struct Keeper {
     count: AtomicU64,
@@ -30,7 +30,7 @@ impl Keeper {
         Ok(Keeper { count, told })
     }
 
-    /// What it was told, ascending.
+    /// What it recorded, ascending. An unused place has the largest number.
     fn codes(&self, alloc: Global) -> Result<Vec<u64>, Fail> {
         let mut codes = Vec::new(alloc);
         for told in &self.told {
@@ -50,7 +50,7 @@ impl TurnGate for Keeper {
     }
 }
 
-/// Whether a gate was told of exactly those four turns that the journal begins and closes.
+/// Whether a gate was called for exactly those four turns that the journal begins and closes.
 fn is_told_of_each(alloc: Global, gate: &Keeper, seen: &Seen) -> Result<bool, Fail> {
     let told = gate.codes(alloc)?;
     let grains = grains_of(alloc, told.as_slice())?;
@@ -75,7 +75,7 @@ fn lane_of_reader(alloc: Global, number: u32) -> Result<Lane, Fail> {
     lane(alloc, caller.as_str(), lines.as_str())
 }
 
-/// The lanes of so many such clients.
+/// The lanes of `count` such clients.
 fn lanes_of_readers(alloc: Global, count: u32) -> Result<Vec<Lane>, Fail> {
     let mut lanes = Vec::new(alloc);
     for number in 0..count {
@@ -84,7 +84,7 @@ fn lanes_of_readers(alloc: Global, count: u32) -> Result<Vec<Lane>, Fail> {
     Ok(lanes)
 }
 
-/// Serves forty readers by one worker with this gate: fails, unless so many turns are open at once, at most.
+/// Serves forty readers by one worker with this gate. Fails, unless the most turns that are open at once are `most`.
 fn are_open_by_one<R: AllocGlobal + Threads + Wait + Sync, G: TurnGate + Sync>(
     rt: &R,
     gate: &G,

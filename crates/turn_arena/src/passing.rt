@@ -7,7 +7,7 @@ ghost use Rattle.request_codec.specs.inside.Ends.{end_of};
 use crate::formed::{known_start, known_text};
 use request_codec::bytes::Start;
 
-/// The bytes behind the value that is known to stand at the front, no deeper than the limit.
+/// The bytes after the value that is known to stand at the front, no deeper than the limit.
 #[cycle(passing)]
 pub(crate) fn known_end(bytes: &[u8], limit: u8) -> &[u8]
     requires { IsSome (value_at limit bytes.now) }

@@ -29,7 +29,7 @@ fn whole_node<'a>(bump: &'a Bump, bytes: &[u8]) -> Result<Node<'a>, ArenaFault>
     }
 }
 
-/// The method and the argument behind the first byte of a message.
+/// The method and the argument after the first byte of a message.
 fn call_in<'a>(bump: &'a Bump, bytes: &[u8]) -> Result<(&'a str, Node<'a>), ArenaFault>
     ensures { ReadsIn (λ found. asks found.0.now (node_value found.1)) result (behind_version message_version bytes.now) }
 {

@@ -1,4 +1,4 @@
-//! Setting one field of a state that is a map, by its bytes: what is in front of the field and behind it stays as it is.
+//! Setting one field of a state that is a map, by its bytes: the fields before it and after it keep their bytes.
 
 ghost use Rattle.std.specs.Prelude.{◌≡◌, ◌≤◌, ◌∷◌, ◌++◌, ◌-◌, Some, None, IfOk};
 ghost use Rattle.std.specs.Prelude.{option_map, length, take, nat_lt, if◌then◌else◌};
@@ -28,13 +28,13 @@ use std::cmp::Ordering;
 struct Place<'a> {
     /// The bytes of the fields in front of it.
     front: &'a [u8],
-    /// The bytes of the fields behind it.
+    /// The bytes of the fields after it.
     behind: &'a [u8],
     /// How many fields the map has once the name is set.
     count: u32,
 }
 
-/// The bytes behind the first byte of a map.
+/// The bytes after the first byte of a map.
 fn behind_map(bytes: &[u8]) -> Option<&[u8]>
     ensures { option_map (λ behind. behind.now) result ≡ behind_map bytes.now }
 {

@@ -101,7 +101,7 @@ impl Mailbox {
         Ok(())
     }
 
-    /// Adds a request behind those that wait. It comes back if the mailbox is full. Takes no memory.
+    /// Adds a request after those that wait. It comes back if the mailbox is full. Takes no memory.
     pub fn push(&mut self, request: Request) -> Result<(), Request>
         ensures full { IsErr result ↔ (length self.old.waiting ≡ self.old.capacity) }
         ensures given_back { IfErr result (λ back. back ≡ request) }

@@ -20,9 +20,9 @@ use std::alloc::Global;
 use std::sync::Wait;
 use std::thread::Threads;
 
-/// Serves the lanes by so many threads, 1 to 64, over one silo of the setup. A lane gives its next step
-/// when its last has its reply; a tick or a sweep, when it was applied. Grains and clients are found by
-/// hashes from the fixed seed: take `serve_seeded` if a stranger names them.
+/// Serves the lanes by the given number of threads, 1 to 64, over one silo of the setup. A lane gives
+/// its next step when its last has its reply; a tick or a sweep, when it was applied. Grains and
+/// clients are found by hashes from the fixed seed: use `serve_seeded` if a stranger names them.
 ///
 /// What isn't promised: that a turn isn't abandoned without need, that two threads run, or that it
 /// returns.
@@ -30,7 +30,7 @@ use std::thread::Threads;
 /// # Errors
 ///
 /// `Memory`; `NoWorker`, if no thread could be started; `Strayed`, if what the workers left isn't what
-/// serving the lanes leaves. The silo is then given up.
+/// serving the lanes leaves. The silo is then dropped.
 pub fn serve<
     S: GrainStorage + Drop + Send,
     L: GrainLogic + Copy + Send,

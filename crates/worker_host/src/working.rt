@@ -181,8 +181,8 @@ impl<S: GrainStorage, L: GrainLogic + Copy + Send> ServedSilo for WorkingSilo<S,
 
     ghost closes = { AnsweredTurn L.logic };
 
-    /// Looks at the replies that weren't looked at yet, and puts the lanes of their clients behind those
-    /// that were told before.
+    /// Looks at the replies that weren't looked at yet, and adds the lanes of their clients to `told`, after those that
+    /// are there.
     ///
     /// # Errors
     ///
@@ -250,7 +250,7 @@ impl<S: GrainStorage, L: GrainLogic + Copy + Send> ServedSilo for WorkingSilo<S,
         self.silo.begin(alloc, grain)
     }
 
-    /// The open turn that asks for the storage is closed.
+    /// Closes the open turn whose plan makes a call of the storage.
     ///
     /// # Errors
     ///
@@ -260,7 +260,7 @@ impl<S: GrainStorage, L: GrainLogic + Copy + Send> ServedSilo for WorkingSilo<S,
         self.silo.store(alloc, finished, false)
     }
 
-    /// The open turn that asks for nothing of the storage is closed.
+    /// Closes the open turn whose plan makes no call of the storage.
     ///
     /// # Errors
     ///

@@ -17,7 +17,7 @@ pub(super) fn first(index: &BTreeMap<GrainId, VecDeque<u64>>, grain: &GrainId) -
     numbers.front().copied()
 }
 
-/// The number of a call that the grain sent goes behind the others.
+/// The number of a call that the grain sent goes after the others.
 ///
 /// # Errors
 ///
