@@ -1,4 +1,4 @@
-//! The lanes that the lines of an input ask for, and what is written and told once these were served.
+//! The lanes that the lines of an input make up, and what is written and printed once these were served.
 //!
 //! A layer above may rely on this: `asked_by` sorts the steps of lines into the lanes that give them, in the order of
 //! the lanes' first lines, and returns the refusals of the other lines that have bytes, in order; `write_outcome`

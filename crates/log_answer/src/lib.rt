@@ -1,4 +1,4 @@
-//! A silo that lasts: each line that it answers is in a log, and on the disk, before anything is told for it.
+//! A silo that lasts: each line that it answers is in a log, and on the disk, before any reply to it is written.
 //!
 //! A layer above may rely on this: at every moment of `answer_logged`, whatever a crash leaves of the log, the replies
 //! written so far are the beginning of what that log answers; and `answer_again` makes a silo that is where the lines

@@ -1,4 +1,4 @@
-//! The whole program over a reader, writers and a file in memory, and the lanes that its lines ask for.
+//! The whole program over a reader, writers and a file in memory, and the lanes that its lines make up.
 //!
 //! They stand in a crate of their own, since a crate with tests is proved twice, with them and without.
 #![tactic(auto)]
