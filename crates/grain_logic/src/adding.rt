@@ -44,7 +44,7 @@ pub(crate) fn number_in<'a>(bump: &'a Bump, state: &'a StateBytes) -> Result<i64
 /// answer is the fault `OutOfRange`.
 #[inline(always)]
 pub(crate) fn added(alloc: Global, number: i64, by: i64) -> OwnedPlan
-    ensures { (state : Tree) → adding.number_of state ≡ number → planned_shown state result ≡ adds_number state by }
+    ensures plan { (state : Tree) → adding.number_of state ≡ number → planned_shown state result ≡ adds_number state by }
 
     // A refused addition writes no new state, not even the same one again.
     ensures unwritten { OnErr result.outcome (result.state ≡ None) }

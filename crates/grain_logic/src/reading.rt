@@ -27,7 +27,7 @@ pub(crate) fn asked_in<'a>(
 /// The method, the name and the number of a message, if its argument is `{name: number}`.
 #[inline(always)]
 pub(crate) fn number_asked(message: &Message) -> Option<(&str, &str, i64)>
-    ensures { IfSome result
+    ensures found { IfSome result
         (λ found. message.now ≡ asks found.0.now (tree.map (field found.1.now (integer found.2) no_fields))) }
     ensures none { result ≡ None → (method : List ℕ) → (name : List ℕ) → (number : ℤ)
         → message.now ≡ asks method (tree.map (field name (integer number) no_fields)) → ⊥ }

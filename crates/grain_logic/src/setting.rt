@@ -43,7 +43,7 @@ pub(crate) fn plain(
     state: Option<StateBytes>,
     outcome: Result<StateBytes, MethodFault>,
 ) -> OwnedPlan
-    ensures { (kept : Tree) → planned_shown kept result ≡ keeps (unwrap_or state kept) outcome }
+    ensures plan { (kept : Tree) → planned_shown kept result ≡ keeps (unwrap_or state kept) outcome }
     ensures state { result.state ≡ state }
     ensures outcome { result.outcome ≡ outcome }
 {
