@@ -31,7 +31,8 @@ pub enum Keep {
     Same,
     /// It rests: it goes as soon as no request waits and no turn is open.
     Rest,
-    /// It stays for at least this many milliseconds, 1 to 86,400,000, however long it is idle.
+    /// It stays for at least this many milliseconds, 1 to 86,400,000, however long it is idle, unless another turn of the
+    /// grain closes before.
     Stay(u64),
 }
 

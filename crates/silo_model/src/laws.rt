@@ -223,7 +223,7 @@ pub fn begin_in_order()
     ensures { BeginInOrder }
 {}
 
-/// A silo that goes on from what is kept of it opens as what it was, but for its replies.
+/// A silo in which all is idle, and which goes on from what is kept of it, opens as what it was, but for its replies.
 #[tactic(auto, using(crate::proofs::Segments::resumes_as_it_was))]
 pub fn resumes_as_it_was()
     ensures { ResumesAsItWas }
