@@ -10,11 +10,11 @@ use line_protocol::{LineFault, Output};
 use std::io::{self, ErrorKind, Write};
 use thiserror::Error;
 
-/// How the program ends if it does what it is asked for.
+/// How the program ends if it does what its arguments request.
 #[derive(Debug, Drop)]
 pub enum End {
     Well,
-    /// All is well, and this is to be told of the lines that were served.
+    /// All is well, and this text about the lines that were served is to be written to standard error.
     Told(String),
     /// An audit found that a tenant differs.
     Differs,
@@ -43,7 +43,7 @@ pub enum Cause {
     InUse,
 }
 
-/// Why the program doesn't do what it is asked for.
+/// Why the program doesn't do what its arguments request.
 #[derive(Debug, Drop, Error)]
 pub enum ProgramFault {
     /// It failed.
@@ -117,7 +117,7 @@ fn failure_line(cause: Cause) -> &'static str
     }
 }
 
-/// Tells the errors why the program fails, as far as they take it, and answers the status.
+/// Writes why the program fails to `errors`, as much of it as they accept, and returns the exit status.
 pub fn tell<E: Write>(errors: &mut Output<E>, fault: &ProgramFault) -> u8
     ensures status { result ≡ status_of fault.now }
     ensures told { Tells (E.contents errors.old.writer) (E.contents errors.new.writer) errors.new.calls (told_text fault.now) }
@@ -138,7 +138,7 @@ pub fn tell<E: Write>(errors: &mut Output<E>, fault: &ProgramFault) -> u8
     }
 }
 
-/// Tells the errors what is to be told of what was done, as far as they take it, and answers the status.
+/// Writes the text of the end to `errors`, if it has one, as much of it as they accept, and returns the exit status.
 pub fn tell_end<E: Write>(errors: &mut Output<E>, end: &End) -> u8
     ensures status { result ≡ end_status end.now }
     ensures told { TellsEnd (E.contents errors.old.writer) (E.contents errors.new.writer) errors.new.calls end.now }
@@ -153,11 +153,11 @@ pub fn tell_end<E: Write>(errors: &mut Output<E>, end: &End) -> u8
     }
 }
 
-/// What is told if an argument is no text.
+/// The error text if an argument is not UTF-8.
 const NOT_UTF8: &str = "error: an argument is not UTF-8\n";
 
-/// Tells why the program's words were not had, and answers the status: 1 if memory was refused, and else 2, since a word
-/// is not UTF-8.
+/// Writes why the program's words couldn't be read to `errors`, as much of it as they accept, and returns the exit
+/// status: 1 if memory was refused, and else 2, since a word is not UTF-8.
 pub fn refuse_words<E: Write>(fault: &io::Error, errors: &mut Output<E>) -> u8
     ensures memory { error_kind fault.now ≡ ErrorKind.OutOfMemory
         → (result ≡ 1) × Tells (E.contents errors.old.writer) (E.contents errors.new.writer) errors.new.calls (failure_text Cause.Memory) }

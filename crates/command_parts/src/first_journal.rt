@@ -29,8 +29,8 @@ fn empty_text<L: GrainLogic>(alloc: Global, start: &Start<L>) -> Result<Vec<u8>,
     journal_of_parts(alloc, parts)
 }
 
-/// Writes the journal of no step to the file at the path, if there is a path: one that can't be written is told before any
-/// work is done.
+/// Writes the journal of no step to the file at the path, if there is a path. So a file that can't be written is
+/// reported before any work is done.
 pub fn keep_first<F: WholeFiles, L: GrainLogic>(
     alloc: Global,
     files: &mut F,

@@ -1,10 +1,10 @@
 //! What the commands of the program `silo` share.
 //!
-//! A layer above may rely on this: `files` is what a command knows of files, which are read whole and written whole, and of a
-//! folder of data; `host_files` has the files of the host, read by `counted_reader`, and `host_logs` its folder; `start` is what
-//! a silo starts from, over any logic, and makes one that answers lines; `journals` and `first_journal` keep a silo's journal in a
-//! file; `failure` says how a command ends, by what it fails, what is then told and the exit status. The text of a fault stands in
-//! `specs/Status.antt`, and what is kept in a file in `specs/Kept.antt`.
+//! A layer above may rely on this: `files` is what a command knows of files, which are read whole and written whole,
+//! and of a folder of data; `host_files` has the files of the host, read by `counted_reader`, and `host_logs` its
+//! folder; `start` is what a silo starts from, over any logic, and makes one that answers lines; `journals` and
+//! `first_journal` keep a silo's journal in a file; `failure` has how a command ends, why it fails, what it then prints
+//! and its exit status. The text of a fault is in `specs/Status.antt`, and what is kept in a file in `specs/Kept.antt`.
 #![tactic(auto)]
 
 mod counted_reader;

@@ -15,7 +15,7 @@ const GRAINS: usize = 16_384;
 /// The most callers that are kept.
 const CALLERS: usize = 8_192;
 
-/// How many grains there are places for till as many came, and how many callers.
+/// How many places there are for grains, and for callers, until that many were read that weren't in the cache.
 const FEW: usize = 512;
 
 /// Names that were read lately, each at the place of its text's hash. A name takes the place of the
@@ -67,7 +67,8 @@ fn hash_of(text: &str) -> usize {
     (stirred(sum, last_word(bytes)) >> 50) as usize
 }
 
-/// How many places there are once so many names came that weren't there, and the place of a text among them.
+/// How many places there are once `new` names were read that weren't in the cache, `FEW` or `most`, and the place of a
+/// text among them.
 #[inline(always)]
 fn places_for(text: &str, new: usize, most: usize) -> (usize, usize)
     requires { 0 < most }
@@ -101,7 +102,8 @@ fn caller_at(callers: &[Caller], place: usize, text: &str) -> Result<Option<Call
     }
 }
 
-/// Keeps a name at its place, or at all of so many places if it is the first.
+/// Keeps a name at its place. If there are fewer than `places` places, the missing ones are added instead, all with
+/// this name.
 ///
 /// # Errors
 ///

@@ -170,8 +170,9 @@ impl<'a, R: Files<File = File>> DataFolder<'a, R> {
         Ok(log)
     }
 
-    /// Begins a log that has this head and nothing behind it, where there is none: it is in its place once it is on the disk, and is
-    /// open then. What an earlier start left of such a log, before it was in its place, is taken away.
+    /// Begins a log that has this head and nothing after it, where there is no log. The log is put in its place once it
+    /// is on the disk, and is open then. What an earlier start left of such a log, before it was in its place, is
+    /// removed.
     ///
     /// # Errors
     ///
@@ -192,7 +193,7 @@ impl<'a, R: Files<File = File>> DataFolder<'a, R> {
         Ok(())
     }
 
-    /// Cuts the log to its first bytes, so many, on the disk.
+    /// Cuts the log to its first `length` bytes, on the disk.
     ///
     /// # Errors
     ///
@@ -212,8 +213,8 @@ impl<'a, R: Files<File = File>> DataFolder<'a, R> {
     ///
     /// # Errors
     ///
-    /// `Write` if no log is open, or it may not be as long, and then nothing was written; or a call failed, and then a part of the
-    /// bytes may be there: the log is to be asked nothing more.
+    /// `Write` if no log is open, or it may not be as long, and then nothing was written; or a call failed, and then a
+    /// part of the bytes may be there: the log must not be used any more.
     pub fn append(&mut self, bytes: &[u8]) -> Result<(), FolderFault>
         ensures same { self.new ≡ self.old }
         ensures closed { self.old.log ≡ None → IsErrOf result FolderFault.Write }
@@ -229,7 +230,7 @@ impl<'a, R: Files<File = File>> DataFolder<'a, R> {
     ///
     /// # Errors
     ///
-    /// `Write` if no log is open, or the call failed: the log is to be asked nothing more.
+    /// `Write` if no log is open, or the call failed: the log must not be used any more.
     pub fn sync(&mut self) -> Result<(), FolderFault>
         ensures same { self.new ≡ self.old }
         ensures closed { self.old.log ≡ None → IsErrOf result FolderFault.Write }

@@ -15,7 +15,7 @@ pub struct Names {
     pub beside: String,
 }
 
-/// The one text, and the other behind it.
+/// The first text, followed by the second.
 fn joined(alloc: Global, first: &str, second: &str) -> Result<String, AllocError>
     ensures { IfOk result (λ text. string_bytes text ≡ first.now ++ second.now) }
 {

@@ -49,7 +49,7 @@ pub fn check_free(files: &impl Files, path: &str) -> io::Result<()> {
     }
 }
 
-/// Writes all of the bytes at the file's end, or nothing if that end would then be behind the limit.
+/// Writes all of the bytes at the file's end, or nothing if that end would then be beyond the limit.
 pub fn write_within(mut file: &File, limit: Option<u64>, bytes: &[u8]) -> io::Result<()> {
     if let Some(most) = limit {
         if most.saturating_sub(file.metadata()?.len()) < bytes.len() as u64 {
@@ -59,7 +59,7 @@ pub fn write_within(mut file: &File, limit: Option<u64>, bytes: &[u8]) -> io::Re
     file.write_all(bytes)
 }
 
-/// Cuts the file to its first bytes, so many, and has it on the disk. It fails where the file hasn't as many.
+/// Cuts the file to its first `length` bytes, and syncs it to the disk. It fails if the file has fewer.
 pub fn cut(file: &File, length: u64) -> io::Result<()> {
     if file.metadata()?.len() < length {
         return Err(io::Error::from(ErrorKind::InvalidInput));

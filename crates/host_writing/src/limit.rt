@@ -5,7 +5,8 @@ use std::io::Read;
 use std::rt::Files;
 use std::{fs, str};
 
-/// Where the system tells a process its limits, a row for each: what it is, the limit, and the one up to which it may be raised.
+/// Where the system lists the limits of a process, a row for each: its name, the limit, and the value up to which it
+/// may be raised.
 const LIMITS: &str = "/proc/self/limits";
 
 /// What the row of the most bytes of a file begins with.
@@ -37,8 +38,8 @@ fn read_rows<F: Read>(file: &mut F, rows: &mut [u8; ROWS_BYTES]) -> usize {
     end
 }
 
-/// The most bytes that a regular file may have when it is written (`ulimit -f`), if there is a limit that the system tells. At
-/// a write behind it the system ends the program by a signal.
+/// The most bytes that a regular file may have when it is written (`ulimit -f`), if the system reports a limit. At a
+/// write beyond it the system ends the program by a signal.
 pub fn size_limit(files: &impl Files) -> Option<u64> {
     let mut file = File::open(files, LIMITS).ok()?;
     let mut rows = [0; ROWS_BYTES];

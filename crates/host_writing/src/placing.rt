@@ -20,8 +20,8 @@ fn check_size(files: &impl Files, bytes: &[u8]) -> io::Result<()> {
     }
 }
 
-/// Fails where the file hasn't the length that was written. Closing a file tells nothing; if it lost something, that shows
-/// here.
+/// Fails where the file hasn't the length that was written. Closing a file reports no error; if it lost something, that
+/// shows here.
 fn check_length(files: &impl Files, path: &str, bytes: &[u8]) -> io::Result<()> {
     match length_of(files, path) {
         Some(length) if length == bytes.len() as u64 => Ok(()),

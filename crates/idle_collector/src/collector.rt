@@ -137,8 +137,8 @@ impl Collector {
         Ok(grains)
     }
 
-    /// The grains whose moment is `now` or earlier: each of them once, in an order that isn't told. Looks at the grains that are
-    /// due, and at two more.
+    /// The grains whose moment is `now` or earlier: each of them once, in an unspecified order. Looks at the grains
+    /// that are due, and at two more.
     ///
     /// # Errors
     ///

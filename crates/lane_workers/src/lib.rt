@@ -1,9 +1,9 @@
 //! Workers that serve lanes, over any silo.
 //!
-//! A layer above may rely on this: how many answers each client is owed is counted exactly (`owed`), up when it asks and down when it
-//! was told; `work_lanes` changes a silo by what `ServedSilo` lets it ask, and by nothing else; two lists that `are_same` are equal.
-//! How many workers go on at once is a hint (`Pace`). What is meant is in `specs/Owing.antt`, `specs/Turns.antt`,
-//! `specs/Served.antt` and `specs/Batches.antt`.
+//! A layer above may rely on this: how many answers each client is owed is counted exactly (`owed`), up when it asks
+//! and down when a reply to it is looked at; `work_lanes` changes a silo by the calls of `ServedSilo`, and by nothing
+//! else; two lists that `are_same` are equal. How many workers go on at once is a hint (`Pace`). What is meant is in
+//! `specs/Owing.antt`, `specs/Turns.antt`, `specs/Served.antt` and `specs/Batches.antt`.
 #![tactic(auto)]
 
 mod bodies;

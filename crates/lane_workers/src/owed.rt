@@ -1,5 +1,5 @@
-//! How many answers each client is owed, and which lane is its own. It is owed as often as it asked, less
-//! what it was told and that was looked at.
+//! How many answers each client is owed, and which lane is its own. It is owed an answer for each time it asked, less
+//! the replies to it that were looked at.
 
 ghost use Rattle.std.specs.Prelude.{◌≡◌, ◌+◌, ◌-◌, ◌≤◌, ◌==◌, true, false, length, drop, if◌then◌else◌};
 ghost use Rattle.std.specs.Prelude.{IfOk, IsFalse, IsTrue, OnErr, OnOk};
@@ -59,12 +59,13 @@ fn know(owing: &mut Owing, client: &Option<Caller>, lane: usize) -> Result<(), A
     Ok(())
 }
 
-/// The client that asks by the step, if one does, asks once more, unless it is owed another number of answers than the replies behind
-/// so many tell it. Whether it may ask, or nobody asks.
+/// Counts one more answer that is owed to the client that asks by the step, if one asks and may. It may if it is owed
+/// exactly as many answers as it has replies after the first `seen`, which weren't looked at yet. Returns whether it
+/// may ask; true if nobody asks.
 ///
 /// # Errors
 ///
-/// Out of memory, or of numbers, and the client may ask: each client is owed what it was owed.
+/// Out of memory, or the count would overflow, and the client may ask: each client is owed as many answers as before.
 pub fn ask(
     owing: &mut Owing,
     step: &Step,
@@ -86,11 +87,11 @@ pub fn ask(
     ask_if(owing, caller, told)
 }
 
-/// The client asks once more, if it is owed so many answers, and says whether it asks.
+/// Counts one more answer that is owed to the client, if it is owed exactly `told` answers, and returns whether it is.
 ///
 /// # Errors
 ///
-/// Out of memory, or of numbers, and the client may ask: each client is owed what it was owed.
+/// Out of memory, or the count would overflow, and the client may ask: each client is owed as many answers as before.
 fn ask_if(owing: &mut Owing, caller: &Caller, told: u64) -> Result<bool, AllocError>
     ensures may { IfOk result (λ asked. asked ≡ (owing_to owing.old caller.now == told)) }
     ensures asked { IfOk result (λ asked. (client : Client) → owing_to owing.new client
@@ -112,11 +113,11 @@ fn ask_if(owing: &mut Owing, caller: &Caller, told: u64) -> Result<bool, AllocEr
     Ok(true)
 }
 
-/// One answer more is owed, if so many are, and says whether it is.
+/// Counts one more answer, if exactly `told` are owed, and returns whether they are.
 ///
 /// # Errors
 ///
-/// Out of numbers, and so many are: as many are owed as before.
+/// The count would overflow, and `told` are owed: as many are owed as before.
 fn ask_more(owed: &mut Owed, told: u64) -> Result<bool, AllocError>
     ensures may { IfOk result (λ asked. asked ≡ (owed.old.count == told)) }
     ensures asked { IfOk result (λ asked. owed.new.count ≡ owed.old.count + (if asked then 1 else 0)) }
@@ -157,7 +158,7 @@ pub fn take_back(owing: &mut Owing, step: &Step)
     }
 }
 
-/// The client was told something, and which lane is its own, if it is known. Takes no memory.
+/// Counts one answer less for the client, and returns which lane is its own, if that is known. Takes no memory.
 fn tell(owing: &mut Owing, caller: &Caller) -> Option<usize>
     ensures { (client : Client) → owing_to owing.new client ≡ owing_to owing.old client - (if client_eq caller.now client then 1 else 0) }
 {
@@ -166,11 +167,12 @@ fn tell(owing: &mut Owing, caller: &Caller) -> Option<usize>
     owed.lane
 }
 
-/// The replies behind so many were told, and their clients' lanes are put behind those that were told before.
+/// Counts the replies after the first `seen` as answers to their clients, and adds their clients' lanes at the end of
+/// `told`.
 ///
 /// # Errors
 ///
-/// Out of memory: the replies were told all the same.
+/// Out of memory: the replies are counted all the same.
 pub fn tell_new(
     owing: &mut Owing,
     replies: &[Reply],
@@ -184,11 +186,11 @@ pub fn tell_new(
     tell_all(owing, new, told)
 }
 
-/// The replies were told, and their clients' lanes are put behind those that were told before.
+/// Counts the replies as answers to their clients, and adds their clients' lanes at the end of `told`.
 ///
 /// # Errors
 ///
-/// Out of memory: the replies were told all the same.
+/// Out of memory: the replies are counted all the same.
 fn tell_all(
     owing: &mut Owing,
     replies: &[Reply],
@@ -210,7 +212,7 @@ fn tell_all(
     noted
 }
 
-/// Puts a lane behind those that were told before, if it is one, and says whether there was memory.
+/// Adds a lane at the end of `told`, if there is one, and returns whether there was memory.
 fn note(told: &mut VecDeque<usize>, lane: Option<usize>) -> bool {
     match lane {
         Some(place) => told.push_back(place).is_ok(),
@@ -218,7 +220,7 @@ fn note(told: &mut VecDeque<usize>, lane: Option<usize>) -> bool {
     }
 }
 
-/// How often the client is told something by the replies.
+/// How many of the replies are to the client.
 fn told_by(replies: &[Reply], client: &Caller) -> u64
     ensures { result ≡ length (ids_told client.now replies.now) }
 {

@@ -36,9 +36,9 @@ const SERVED_AT_ONCE: u32 = 256;
 pub struct Pace {
     /// How many workers there may be.
     pub workers: usize,
-    /// How many of them have come to the lock.
+    /// How many of them have reached the lock.
     pub come: usize,
-    /// How many of those that have come aren't waiting.
+    /// How many of those that have reached it aren't waiting.
     pub awake: usize,
     /// How many turns a worker takes at once while others are awake.
     pub share: usize,
@@ -56,7 +56,7 @@ pub struct Pace {
     pub rest: u32,
     /// For how many nobody was woken when one rested last.
     pub rested: u32,
-    /// Each turn is told to a gate, so none may be served at once.
+    /// A gate is called for each turn, so none may be served at once.
     pub watched: bool,
     /// A body wasn't short that ran under the lock, so others are to run without it until the worker comes back.
     pub long: bool,
@@ -65,7 +65,7 @@ pub struct Pace {
 }
 
 impl Pace {
-    /// The pace of so many workers that are about to start: each takes one turn.
+    /// The pace of `workers` workers that are about to start: each takes one turn.
     pub fn new(workers: usize, watched: bool) -> Pace
         ensures { result ≡ record {
           workers = workers;
@@ -102,7 +102,7 @@ impl Pace {
         }
     }
 
-    /// A worker comes to the lock for the first time.
+    /// A worker reaches the lock for the first time.
     pub fn start(&mut self)
         ensures { self.new
             ≡ record self.old { come = min (self.old.come + 1) (2 ^ 64 - 1); awake = min (self.old.awake + 1) (2 ^ 64 - 1) } }
@@ -193,7 +193,7 @@ impl Pace {
         self.sleep();
     }
 
-    /// How many turns a worker takes now, of so much that can be done. A worker's first turn is one, so
+    /// How many turns a worker takes now, at most, where `seen` things can be done. A worker's first turn is one, so
     /// that at the start each has its own; and one that is alone leaves half to the next that comes.
     pub fn share_of(&self, first: bool, seen: usize) -> usize
         ensures within { (1 ≤ result) × (result ≤ most_turns first) }
@@ -253,8 +253,8 @@ impl Pace {
         alone || self.workers <= 1 || (self.rest > 0 && !self.long)
     }
 
-    /// A call was served at once, or wasn't one for that, and its body took so much of the arena. Behind many of them a rest is one
-    /// shorter.
+    /// A call was served at once, or wasn't one for that, and its body took `taken` bytes of the arena. After every 256
+    /// of them a rest is one shorter.
     pub fn note_body(&mut self, taken: usize)
         ensures long { 4096 < taken → self.new.long ≡ true }
         ensures short { taken ≤ 4096 → self.new.long ≡ self.old.long }

@@ -18,7 +18,8 @@ use silo_event::{Answer, Step, StepFault};
 use std::alloc::{AllocError, Global};
 use std::collections::VecDeque;
 
-/// How many steps in a row the lane gives that was told something last, until it is the turn of the one that has waited for longest.
+/// How many steps in a row come from the lane whose client was answered last, until it is the turn of the lane that has
+/// waited for longest.
 const IN_A_ROW: u32 = 16;
 
 /// What a worker does next.
@@ -52,7 +53,7 @@ pub struct Schedule<W: ServedSilo> {
 pub struct LanePlaces {
     /// How many steps of each lane were given.
     given: Vec<usize>,
-    /// The lanes that may give their next step: last those that were told something last.
+    /// The lanes that may give their next step: last those whose clients were answered last.
     ready: VecDeque<usize>,
     /// How many steps the last of them gave in a row.
     in_a_row: u32,
@@ -86,8 +87,8 @@ impl LanePlaces {
         }
     }
 
-    /// The lane that gives the next step, if one may: the one that was told something last, and behind so many of these the one that
-    /// has been ready for longest.
+    /// The lane that gives the next step, if one may: the one whose client was answered last, and after `IN_A_ROW` of
+    /// these the one that has been ready for longest.
     fn next_ready(&mut self) -> Option<usize> {
         if self.in_a_row < IN_A_ROW {
             self.in_a_row += 1;
@@ -123,7 +124,7 @@ impl<W: ServedSilo + Drop> Schedule<W> {
         }
     }
 
-    /// The silo, or none if all was given up.
+    /// The silo, or none if all work was abandoned.
     pub fn into_silo(self) -> Option<W> {
         let Schedule { silo, stopped, .. } = self;
         (!stopped).then_some(silo)
@@ -131,8 +132,9 @@ impl<W: ServedSilo + Drop> Schedule<W> {
 }
 
 impl<W: ServedSilo> Schedule<W> {
-    /// A worker comes to the lock: for the first time, or with turns whose bodies ran, which are closed. Maybe it met another there, and
-    /// before the bodies it woke another by this waking, if by any.
+    /// A worker reaches the lock: for the first time, or with turns whose bodies ran, which are closed. `met` says
+    /// whether it met another there. Before it ran the bodies it woke another by the waking of the number `waking`, or
+    /// none if that is 0.
     pub fn come(
         &mut self,
         alloc: Global,
@@ -151,8 +153,8 @@ impl<W: ServedSilo> Schedule<W> {
         self.close_all(alloc, turns);
     }
 
-    /// Closes turns by what they came to, one after another. If memory is refused for more than that, all is
-    /// given up.
+    /// Closes turns by their results, one after another. If memory is refused even for abandoning a turn, or for noting
+    /// what is left to do, all work is abandoned.
     fn close_all(&mut self, alloc: Global, turns: &[RanTurn<W::Logic>])
         ensures { AreClosed W.answers W.Logic.logic self.old.silo turns.now self.new.silo }
     {
@@ -173,7 +175,7 @@ impl<W: ServedSilo> Schedule<W> {
         }
     }
 
-    /// Closes a turn by what it came to. If that fails, or its body got no memory, the turn is given up.
+    /// Closes a turn by its result. If that fails, or its body got no memory, the turn is abandoned.
     fn close(&mut self, alloc: Global, turn: &RanTurn<W::Logic>) -> Result<(), StepFault>
         ensures { IsClosed W.answers W.Logic.logic self.old.silo (turn_of turn.now) self.new.silo }
     {
@@ -204,13 +206,13 @@ impl<W: ServedSilo> Schedule<W> {
         }
     }
 
-    /// All is given up, by a worker that ends.
+    /// A worker abandons all work, and ends.
     pub fn give_up_all(&mut self) {
         self.stopped = true;
         self.pace.leave();
     }
 
-    /// Gives up a turn that is open.
+    /// Abandons a turn that is open.
     fn give_up(&mut self, alloc: Global, opened: &OpenedTurn) -> Result<(), StepFault>
         ensures { IsTried W.answers self.old.silo (step.Abandon opened.now.grain opened.now.number) self.new.silo }
     {
@@ -263,8 +265,8 @@ impl<W: ServedSilo> Schedule<W> {
         self.lanes.ready.len().saturating_add(self.grains.len())
     }
 
-    /// Takes steps until the worker has its share of turns, or nothing can be done now, unless the worker is better off at rest and
-    /// isn't one that stays awake. If memory is refused, all is given up.
+    /// Takes steps until the worker has its share of turns, or nothing can be done now, unless the worker is better off
+    /// at rest and isn't one that stays awake. If memory is refused, all work is abandoned.
     pub fn fill(
         &mut self,
         alloc: Global,
@@ -316,7 +318,7 @@ impl<W: ServedSilo> Schedule<W> {
         Ok(())
     }
 
-    /// Looks at the replies since, and puts the lanes behind the ready ones whose clients were told something.
+    /// Looks at the new replies, and adds the lanes of their clients after the ready ones.
     fn note_told(&mut self) -> Result<(), AllocError> {
         self.silo.look_at_replies(&mut self.lanes.ready)
     }
@@ -519,7 +521,7 @@ fn make_free(alloc: Global, arena: &mut Bump) {
     }
 }
 
-/// Adds a grain behind the others.
+/// Adds a grain after the others.
 fn push(grains: &mut VecDeque<GrainId>, grain: GrainId) -> Result<(), StepFault> {
     match grains.push_back(grain) {
         Ok(()) => Ok(()),

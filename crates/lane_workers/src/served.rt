@@ -18,10 +18,10 @@ pub enum NextStep {
     Activate,
 }
 
-/// A silo that workers serve: what it is asked under the lock.
+/// A silo that workers serve: the calls that they make under the lock.
 ///
-/// A fault leaves the silo as it was. What is to do at a grain, whom it sends to, and which lanes are told something, are hints: no
-/// clause speaks of them.
+/// A fault leaves the silo as it was. What is to do at a grain, whom it sends to, and which lanes have new replies, are
+/// hints: no clause speaks of them.
 pub trait ServedSilo {
     ghost use Rattle.std.specs.Prelude.{◌≡◌, false, true, None, Ok, Some, IfErr, IfOk, OnErr};
     ghost use Rattle.silo_event.specs.declared.step.Answer.TheVariants as answer;
@@ -73,7 +73,7 @@ pub trait ServedSilo {
         ensures unchanged { OnErr result (self.new ≡ self.old) }
         ensures fault { IfErr result (λ fault. fault ≡ StepFault.Memory) };
 
-    /// The open turn that asks for the storage is closed.
+    /// Closes an open turn that makes a storage call.
     fn store(
         &mut self,
         alloc: Global,
@@ -83,7 +83,7 @@ pub trait ServedSilo {
         ensures done { IfOk result (λ a. answers self.old (step.Store finished.now.grain finished.now.number false) (Ok a) self.new) }
         ensures unchanged { OnErr result (self.new ≡ self.old) };
 
-    /// The open turn that asks for nothing of the storage is closed.
+    /// Closes an open turn that makes no storage call.
     fn end(
         &mut self,
         alloc: Global,
@@ -99,8 +99,8 @@ pub trait ServedSilo {
     /// The grain to which the grain's first send goes, if it has one.
     fn first_target(&self, grain: &GrainId) -> Option<&GrainId>;
 
-    /// Looks at the replies that weren't looked at yet, and puts the lanes of their clients behind those that were told before. Out of
-    /// memory they were looked at all the same.
+    /// Looks at the replies that weren't looked at yet, and adds the lanes of their clients at the end of `told`. If
+    /// memory is refused, they count as looked at all the same.
     fn look_at_replies(&mut self, told: &mut VecDeque<usize>) -> Result<(), AllocError>
         ensures { self.new ≡ self.old };
 }

@@ -105,7 +105,7 @@ fn next_turns<W: ServedSilo, R: Wait>(
     unreachable!()
 }
 
-/// A worker gives all up, and ends.
+/// A worker abandons all work, and ends.
 fn give_up<W: ServedSilo, R: Wait>(rt: &R, schedule: &Mutex<Schedule<W>>, changed: &Condvar) {
     let mut held = schedule.lock(rt);
     held.give_up_all();
@@ -113,8 +113,8 @@ fn give_up<W: ServedSilo, R: Wait>(rt: &R, schedule: &Mutex<Schedule<W>>, change
     changed.notify_all();
 }
 
-/// A worker runs the turns that it took, and goes on until all is over. If there is no memory for what its turns come to, all is given
-/// up.
+/// A worker runs the turns that it took, and goes on until all is over. If there is no memory for the results of its
+/// turns, all work is abandoned.
 fn go_on<W: ServedSilo, G: TurnGate, R: Wait>(
     rt: &R,
     alloc: Global,
@@ -244,14 +244,16 @@ pub enum WorkFault {
     NoWorker,
 }
 
-/// Serves the lanes over the silo by so many workers, and gives it back as they left it. A lane gives its next step when its last has
-/// its reply; a tick or a sweep, when it was taken. One of the workers is this thread, so one alone needs no other.
+/// Serves the lanes over the silo by `workers` workers, and returns the silo as they left it. A lane gives its next
+/// step once its last one has its reply; after a tick or a sweep, once that was taken. One of the workers is this
+/// thread, so one alone needs no other.
 ///
-/// No clause says what they left: they ask the silo what `ServedSilo` has, and nothing else, so it is what that keeps.
+/// No clause says what they left: they call nothing of the silo but the methods of `ServedSilo`, so whatever these keep
+/// holds.
 ///
 /// # Errors
 ///
-/// `Memory`; `NoWorker`, if none of the other threads could be started. The silo is then given up.
+/// `Memory` if memory was refused; `NoWorker` if none of the other threads could be started. The silo is dropped then.
 pub fn work_lanes<W: ServedSilo + Drop + Send, G: TurnGate + Sync, R: Threads + Wait + Sync>(
     rt: &R,
     alloc: Global,

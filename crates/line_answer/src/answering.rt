@@ -31,7 +31,7 @@ const LISTED_WEIGHT: u64 = 256;
 /// A history of fewer bytes isn't dropped.
 const LEAST_HISTORY: u64 = 16_777_216;
 
-/// So many bytes with those that replies take, about.
+/// The given bytes and those that the replies take in a history, about.
 fn weighed_with(bytes: u64, replies: &[Reply]) -> u64 {
     let mut sum = bytes;
     for reply in replies {
@@ -147,9 +147,10 @@ impl<S: GrainStorage, L: GrainLogic> AnsweringSilo<S, L> {
         self.keeps = false;
     }
 
-    /// Notes that a line of so many bytes was answered. A history that needn't be kept is dropped once its lines, steps and
-    /// replies, those to grains too, take about 16 MB, and no less than lists of its rows and of the grains that are active:
-    /// the silo opens again where it is. If memory is refused for that, the history stays until it is 16 MB larger.
+    /// Notes that a line of `bytes` bytes was answered. A history that needn't be kept is dropped once its lines, steps
+    /// and replies, those to grains too, take about 16 MB, and no less than lists of its rows and of the grains that
+    /// are active: the silo opens again where it is. If memory is refused for that, the history stays until it is 16 MB
+    /// larger.
     pub fn note(&mut self, alloc: Global, bytes: usize)
         ensures history { MayDrop self.old.keeps self.old.history self.new.history }
         ensures stopped { self.new.stopped ≡ self.old.stopped }
@@ -217,9 +218,10 @@ impl<S: GrainStorage, L: GrainLogic> AnsweringSilo<S, L> {
         silo
     }
 
-    /// Answers what is asked: its step is taken; if a call was accepted, its grain is brought up and it is given its turn;
-    /// and then at most so many of what its tenant's grains sent are delivered, the oldest first, each with its turn. Says
-    /// whether the step was possible: only a tick may not be.
+    /// Answers what a client asks, a tick or a sweep: its step is taken; if it is a call that is accepted, its grain is
+    /// brought up and it is given its turn; and then at most `most` of the requests that the grains of the client's
+    /// tenant sent are delivered, the oldest first, each with its turn. Returns whether the step was possible: only a
+    /// tick may be impossible.
     ///
     /// # Errors
     ///
@@ -232,7 +234,7 @@ impl<S: GrainStorage, L: GrainLogic> AnsweringSilo<S, L> {
         // Nothing waits and nothing is open.
         ensures idle { OnOk result (AllIdle self.new.history.whole.entries) }
 
-        // Who asked has one reply, the first of all that are new, of which the others are told to grains.
+        // Who asked has one reply, the first of all that are new; the others are to grains.
         ensures told { OnOk result (TellsAsker (asking_of step) self.old.history.whole.replies self.new.history.whole.replies) }
         ensures ready { OnOk result (self.new.stopped ≡ false) }
         ensures stopped { OnErr result (self.new.stopped ≡ true) }

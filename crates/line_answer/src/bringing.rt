@@ -18,8 +18,8 @@ use silo_core::Silo;
 use silo_event::Step;
 use std::alloc::{AllocError, Global};
 
-/// Takes a step, and serves the request that it brought to the grain, if it was accepted: then nobody is
-/// told anything yet. Says whether the step was possible.
+/// Takes a step, and serves the request that it brought to the grain, if it was accepted: then there is no reply to
+/// anybody yet. Returns whether the step was possible.
 ///
 /// # Errors
 ///
@@ -131,7 +131,7 @@ fn deliver_found<S: GrainStorage, L: GrainLogic>(
     Ok(())
 }
 
-/// Delivers at most so many of what the tenant's grains sent, the oldest first.
+/// Delivers at most `most` of the requests that the tenant's grains sent, the oldest first.
 ///
 /// # Errors
 ///
@@ -209,8 +209,8 @@ fn last_caller<S: GrainStorage, L: GrainLogic>(silo: &Silo<S, L>) -> Option<&Cal
     call.asker()
 }
 
-/// Delivers at most so many of what the tenant's grains sent whose client's call was served at once last, the oldest first. Mostly
-/// there is none.
+/// If the last thing done was a client's call that was served at once, delivers at most `most` of the requests that the
+/// grains of the client's tenant sent, the oldest first. Mostly there is none.
 ///
 /// # Errors
 ///
@@ -263,8 +263,8 @@ fn answer_by_steps<S: GrainStorage, L: GrainLogic>(
     Ok(done)
 }
 
-/// Answers what is asked, with at most so many deliveries behind it: a call is mostly served at once. Says whether the step was
-/// possible. Turns run in the arena, one after another.
+/// Answers what a client asks, a tick or a sweep, followed by at most `most` deliveries: a call is mostly served at
+/// once. Returns whether the step was possible. Turns run in the arena, one after another.
 ///
 /// # Errors
 ///

@@ -9,9 +9,9 @@ pub fn lines_apart()
     ensures { LinesApart }
 {}
 
-/// Where the storage never failed and no turn was given up, which the journal shows, what is written is a function of the
-/// lines and of what the silo had; and what a tenant is shown is one of what it was shown and of what the tenant and
-/// nobody asked.
+/// Where the storage never failed and no turn was abandoned, which the journal shows, what is written is a function of
+/// the lines and of what the silo had; and what a tenant is shown is a function of what it was shown before, of what
+/// the tenant asked, and of the ticks and sweeps, which nobody asks.
 pub fn lines_certain()
     ensures { LinesCertain }
 {}
@@ -21,8 +21,8 @@ pub fn lines_alone()
     ensures { LinesAlone }
 {}
 
-/// What is written for a client's line is the line of one reply to it, under its number, and behind that lines of
-/// replies to grains.
+/// What is written for a client's line is the line of one reply to it, under its number, followed by lines of replies
+/// to grains.
 pub fn clients_first()
     ensures { ClientsFirst }
 {}

@@ -25,7 +25,7 @@ fn refuse(alloc: Global, text: &mut String, refusal: LineRefusal) -> Result<(), 
     text.push_str("\n")
 }
 
-/// Adds the lines of the replies behind so many.
+/// Adds the lines of the replies after the first `before` ones.
 fn push_new(
     alloc: Global,
     text: &mut String,

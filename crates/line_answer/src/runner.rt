@@ -45,13 +45,13 @@ fn write_answer<W: Write, S: GrainStorage, L: GrainLogic>(
     output.write_whole(text.as_str().as_bytes())
 }
 
-/// Answers each line before the next is read: what a client asks, the clock, and sweeping. Behind what a client asks at
-/// most so many of what its tenant's grains sent are delivered; what is left goes on behind the tenant's next line.
-/// Answers the number of lines, at most 1,073,741,824.
+/// Answers each line before the next is read: what a client asks, the clock, and sweeping. After what a client asks, at
+/// most `most` of the requests that the grains of its tenant sent are delivered; what is left is delivered after the
+/// tenant's next lines. Returns the number of lines, at most 1,073,741,824.
 ///
-/// All that one line answers is written in one go, and goes out before a read that may wait. What was read ahead comes
-/// first. A silo that needn't keep its history drops it between two lines, from time to time: it answers as if it had kept
-/// all.
+/// All that is written for one line is written in one go, and goes out before a read that may wait. What was read ahead
+/// comes first. A silo that needn't keep its history drops it between two lines, from time to time: it answers as if it
+/// had kept all.
 ///
 /// # Errors
 ///

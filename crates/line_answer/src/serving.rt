@@ -141,7 +141,7 @@ fn end<S: GrainStorage, L: GrainLogic>(
     Ok(())
 }
 
-/// An open turn is closed. If there is no memory for its end, it is given up.
+/// Closes an open turn. If there is no memory for its end, it is abandoned.
 ///
 /// # Errors
 ///
@@ -176,7 +176,7 @@ pub fn make_free(bump: &mut Bump) {
     }
 }
 
-/// The request that waits at the grain is served. Its turn runs in the arena, which is made free behind it.
+/// Serves the request that waits at the grain. Its turn runs in the arena, on which `make_free` is called afterwards.
 ///
 /// # Errors
 ///

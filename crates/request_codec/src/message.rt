@@ -111,7 +111,7 @@ impl Message {
         spelled(show(&self.kept))
     }
 
-    /// The method. The value behind it is not read.
+    /// The method. The value after it is not read.
     pub fn method(&self) -> &str
         ensures { result.now ≡ self.now.method }
     {

@@ -1,4 +1,5 @@
-//! Messages and states of before: the first byte of a message was another one, and no bytes were among the values.
+//! Messages and states of the older form: the first byte of a message was another one, and no bytes were among the
+//! values.
 
 ghost use Rattle.std.specs.Prelude.{ℕ, ◌≡◌, List, None, Err, option_map, is_some, IsSome, IfOk};
 ghost use Rattle.request_codec.specs.Reading.{value_at, members_at, fields_at};
@@ -18,7 +19,7 @@ use crate::message::Message;
 use crate::state::StateBytes;
 use std::alloc::{AllocError, Global};
 
-/// Whether bytes stand in the value at the front, which is no deeper than the limit, and what is behind it.
+/// Whether there are bytes in the value at the front, which is no deeper than the limit, and what follows it.
 #[cycle(finding)]
 fn bytes_found(bytes: &[u8], limit: u8) -> Option<(bool, &[u8])>
     ensures { option_map (λ x. (x.0, x.1.now)) result ≡ holding holds_bytes (value_at limit bytes.now) }
@@ -94,7 +95,7 @@ fn is_plain_value(bytes: &[u8]) -> bool
     }
 }
 
-/// Whether the first byte is that of the form before, and those behind it are a method and one value that holds no bytes.
+/// Whether the first byte is that of the older form, and those after it are a method and one value that holds no bytes.
 fn is_old_call(bytes: &[u8]) -> bool
     ensures { result ≡ is_some (old_call_behind bytes.now) }
 {
@@ -107,7 +108,7 @@ fn is_old_call(bytes: &[u8]) -> bool
     is_plain_value(rest)
 }
 
-/// Whether the bytes are a message's of the form before.
+/// Whether the bytes are a message's of the older form.
 #[tactic(auto, unfolding(crate::specs::Call::versioned_call))]
 fn is_old_message(bytes: &[u8]) -> bool
     ensures { result ≡ is_some (old_call bytes.now) }
@@ -118,7 +119,7 @@ fn is_old_message(bytes: &[u8]) -> bool
     is_old_call(bytes)
 }
 
-/// The bytes of a message of the form before with the first byte of a message.
+/// The bytes of a message of the older form, with the first byte of a current message.
 fn renewed(alloc: Global, bytes: &[u8]) -> Result<Vec<u8>, AllocError>
     requires { IsSome (old_call bytes.now) }
     ensures { IfOk result (λ renewed. message_call renewed.items ≡ old_call bytes.now) }
@@ -132,8 +133,8 @@ fn renewed(alloc: Global, bytes: &[u8]) -> Result<Vec<u8>, AllocError>
     Ok(renewed)
 }
 
-/// The message of the method and the value that bytes of the form before spell: its first byte is another one, and
-/// the others are the same.
+/// The message of the method and the value that bytes of the older form spell: its first byte is another one, and the
+/// others are the same.
 ///
 /// # Errors
 ///

@@ -42,7 +42,7 @@ pub fn state_datum(alloc: Global, bytes: &[u8]) -> Result<Datum, CodecFault>
     whole_datum(alloc, bytes)
 }
 
-/// The method and the argument behind the first byte of a message.
+/// The method and the argument after the first byte of a message.
 fn call_in(alloc: Global, bytes: &[u8]) -> Result<(String, Datum), CodecFault>
     ensures { Reads (λ found. asks (string_bytes found.0) (value_of found.1)) result (behind_version message_version bytes.now) }
 {

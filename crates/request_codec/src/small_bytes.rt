@@ -39,9 +39,9 @@ fn hold_short(bytes: &[u8]) -> SmallBytes
     SmallBytes::Short(count as u8, short)
 }
 
-/// Whether so many bytes may stay in a block of this size. A large block that is nearly full stays as it
-/// is: if its end were given back, what is made next would take that, and the hole that the block leaves
-/// one day would be a few bytes too short for the next one of its kind.
+/// Whether `count` bytes may stay in a block of `room` bytes. A large block that is nearly full stays as it is: if its
+/// end were given back, what is made next would take that, and the hole that the block leaves one day would be a few
+/// bytes too short for the next one of its kind.
 fn may_stay(count: usize, room: usize) -> bool {
     count >= LARGE && room.saturating_sub(count) <= count / 4
 }
@@ -70,7 +70,7 @@ pub(crate) fn hold_copy(alloc: Global, bytes: &[u8]) -> Result<SmallBytes, Alloc
     Ok(SmallBytes::Long(ArcSlice::from_slice(alloc, bytes)?))
 }
 
-/// The spelling of a text of at most 20 bytes, and what stands behind it.
+/// The spelling of a text of at most 20 bytes, followed by zeros.
 fn spell_text(text: &[u8]) -> [u8; DECIMAL]
     requires { length text.now ≤ 20 }
     ensures { take (5 + length text.now) result ≡ 4 ∷ text_spelling text.now }

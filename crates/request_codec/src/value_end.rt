@@ -9,7 +9,7 @@ ghost use Rattle.request_codec.specs.inside.Ends.{end_of};
 use crate::bytes::{Start, may_follow, start_of, text_of};
 use crate::limits::{MAX_DEPTH, MAX_MESSAGE_BYTES, MAX_STATE_BYTES, MESSAGE_VERSION};
 
-/// The bytes behind the value at the front, which is no deeper than the limit.
+/// The bytes after the value at the front, which is no deeper than the limit.
 #[cycle(ends)]
 pub fn value_end(bytes: &[u8], limit: u8) -> Option<&[u8]>
     ensures { option_map (λ rest. rest.now) result ≡ end_of (value_at limit bytes.now) }
@@ -89,7 +89,7 @@ pub fn is_state(bytes: &[u8]) -> bool
     is_one_value(bytes)
 }
 
-/// Whether the first byte is a message's, and those behind it are a method and one value.
+/// Whether the first byte is a message's, and those after it are a method and one value.
 fn is_call(bytes: &[u8]) -> bool
     ensures { result ≡ is_some (behind_version message_version bytes.now) }
 {

@@ -1,11 +1,11 @@
 //! What the program `silo` does, over any files and streams.
 //!
-//! A layer above may rely on this: `run_program` does what the words ask for, and says by its answer what the exit status
-//! is, and by its contract what was read, written and told. The crate `silo_words` reads the words, the tenant arguments
-//! among them. Each command is done by a crate of its own: `line_commands` takes the steps of an input, or answers its lines
-//! at once, `data_command` does so with a folder of data, `serve_command` serves them by threads, and `journal_commands`
-//! audits the journal of a file, or migrates it; `command_parts` has what they share. Here `program` calls them, and
-//! `seeding` gives the maps of a task their seed.
+//! A layer above may rely on this: `run_program` does what the words request, and returns the exit status; its contract
+//! says what was read, and what was written to files, to the output and to the errors. The crate `silo_words` reads the
+//! words, the tenant arguments among them. Each command is done by a crate of its own: `line_commands` takes the steps
+//! of an input, or answers its lines at once, `data_command` does so with a folder of data, `serve_command` serves them
+//! by threads, and `journal_commands` audits the journal of a file, or migrates it; `command_parts` has what they
+//! share. Here `program` calls them, and `seeding` gives the maps of a task their seed.
 //! How the program ends stands in `specs/Ends.antt`.
 #![tactic(auto)]
 

@@ -43,7 +43,7 @@ use worker_host::{FreeGate, TurnGate};
 /// What `--version` shows.
 const VERSION_LINE: &str = "silo 0.2.0\n";
 
-/// Writes a text that was asked for.
+/// Writes a text that was requested.
 fn show<W: Write>(output: &mut Output<W>, text: &str) -> Result<End, ProgramFault>
     ensures whole { IfOk result (λ end. (end ≡ End.Well)
         × Appends (W.contents output.old.writer) (W.contents output.new.writer) text.now) }
@@ -58,7 +58,7 @@ fn show<W: Write>(output: &mut Output<W>, text: &str) -> Result<End, ProgramFaul
     Err(ProgramFault::Failed(Cause::Write))
 }
 
-/// Shows the text that the words ask for, if they ask for one.
+/// Shows the text that the words request, if they request one, and otherwise returns why they make no task.
 fn explain_words<W: Write>(fault: WordsFault, output: &mut Output<W>) -> Result<End, ProgramFault>
     ensures shown { (words : List Text) (from : Option (List ℕ)) → IsWhy words fault
         → IfOk result (λ end. (end ≡ End.Well) × ShowsText words from from (W.contents output.old.writer) (W.contents output.new.writer)) }
@@ -192,8 +192,8 @@ fn answer_tenants<F: WholeFiles, R: Read, W: Write>(
     }
 }
 
-/// What lines are answered under, with a folder of data: the ages, the most deliveries behind a line, the folder, and the tenant
-/// arguments.
+/// The settings for answering lines with a folder of data: the ages, the most deliveries after a line, the folder, and
+/// the tenant arguments.
 #[derive(Clone, Copy)]
 struct FolderTask<'a> {
     age: Age,
@@ -302,13 +302,13 @@ fn serve_tenants<
     }
 }
 
-/// Does what the words ask for, and answers how it ended or why it didn't. The words begin with the program's name, and
-/// nothing of the input is read ahead. A gate that watches is told of each turn that is served, before its body runs, and the other of
-/// each tenant that is audited: `run_program` has free ones.
+/// Does what the words request, and returns how it ended or why it didn't. The words begin with the program's name, and
+/// nothing of the input is read ahead. `turns`, if it watches, is called for each turn that is served, before its body
+/// runs, and `audits` for each tenant that is audited: `run_program` passes gates that do nothing.
 ///
 /// # Errors
 ///
-/// As `run_program` tells them.
+/// Those that `run_program` writes to its `errors`.
 pub fn answer<
     H: AllocGlobal + RandomSource + Threads + Wait + Sync,
     F: WholeFiles + DataFiles,
@@ -435,32 +435,33 @@ pub fn run_program<
     requires { IsFresh input.old.lines }
     ensures status { result ≤ 4 }
 
-    // What the words ask for was done, and told if they ask to tell it.
+    // What the words request was done, and a report was written to the errors if they request one.
     ensures well { result ≡ 0 → (how : EndValue) × (how ≢ End.Differs)
         × EndsAs how (texts_of words.now) (claims F.may_hold F.may_fail F.may_leave files.old files.new)
         (log_claims F.begun F.acts F.failed files.old files.new)
         (R.remaining input.old.reader) (R.remaining input.new.reader) (W.contents output.old.writer) (W.contents output.new.writer)
         × TellsEnd (E.contents errors.old.writer) (E.contents errors.new.writer) errors.new.calls how }
 
-    // An audit was asked for, and a tenant differs.
+    // An audit was requested, and a tenant differs.
     ensures differs { result ≡ 3 → EndsAs End.Differs (texts_of words.now) (claims F.may_hold F.may_fail F.may_leave files.old files.new)
         (log_claims F.begun F.acts F.failed files.old files.new)
         (R.remaining input.old.reader) (R.remaining input.new.reader) (W.contents output.old.writer) (W.contents output.new.writer) }
 
-    // In every outcome no file was written, or to the path that was asked for the journal of no step was, and then perhaps that
-    // of what was served or answered; or a folder of data is asked for, and whatever a crash leaves of its log at any moment, what was
-    // told is the beginning of what that log answers.
+    // In every outcome no file was written, or the journal of no step was, to the path that was requested, and then
+    // perhaps that of what was served or answered; or a folder of data is requested, and whatever a crash leaves of its
+    // log at any moment, the replies that were written are the beginning of what that log answers.
     ensures journal { LeavesFiles (texts_of words.now) (claims F.may_hold F.may_fail F.may_leave files.old files.new)
         (log_claims F.begun F.acts F.failed files.old files.new) (R.remaining input.old.reader) (R.remaining input.new.reader) }
     ensures files { ((path : Text) → ¬ AskForJournal (texts_of words.now) path)
         → ((folder : Text) → ¬ AskForFolder (texts_of words.now) folder) → files.new ≡ files.old }
 
-    // No call of the writer failed, what was written went out, and nothing was told then but what the words ask to tell.
+    // No call of the writer failed, what was written went out, and nothing was written to the errors then but the
+    // report that the words request.
     ensures unfailed { (result ≡ 0) ⊎ (result ≡ 3) → output.new.calls.failed ≡ output.old.calls.failed }
     ensures out { (result ≡ 0) ⊎ (result ≡ 3) → output.old.calls.held ≡ false → output.new.calls.held ≡ false }
     ensures quiet { result ≡ 3 → Keeps (E.contents errors.old.writer) (E.contents errors.new.writer) }
 
-    // The program failed, and told by what.
+    // The program failed, and what was written to the errors says why.
     ensures failed { result ≡ 1 → (why : Cause)
         × FailsBy (texts_of words.now) (claims F.may_hold F.may_fail F.may_leave files.old files.new)
         (log_claims F.begun F.acts F.failed files.old files.new) why
@@ -468,7 +469,8 @@ pub fn run_program<
         (W.contents output.old.writer) (W.contents output.new.writer) output.new.calls
         × Tells (E.contents errors.old.writer) (E.contents errors.new.writer) errors.new.calls (failure_text why) }
 
-    // The arguments are refused, or the folder of data has a log of other words, and what was told says why.
+    // The arguments are refused, or the folder of data has a log of other words, and what was written to the errors
+    // says why.
     ensures refused { result ≡ 2 → (text : Text) × ((AreRefusedBy (texts_of words.now) text × (files.new ≡ files.old))
         ⊎ RefusesFolder (texts_of words.now) (log_claims F.begun F.acts F.failed files.old files.new) text
         (R.remaining input.old.reader) (R.remaining input.new.reader) input.new.lines
@@ -478,8 +480,9 @@ pub fn run_program<
     ensures unwritten { result ≡ 2 → Keeps (W.contents output.old.writer) (W.contents output.new.writer) }
     ensures untouched { result ≡ 2 → ((folder : Text) → ¬ AskForFolder (texts_of words.now) folder) → files.new ≡ files.old }
 
-    // An audit was asked for, or a journal to be migrated, the file has no journal, and what was told says which line is refused; or a
-    // folder of data was, and what was told says at which line its log isn't gone on with.
+    // An audit was requested, or a journal to be migrated, the file has no journal, and what was written to the errors
+    // says which line is refused; or a folder of data was requested, and what was written to the errors says at which
+    // line its log isn't continued.
     ensures no_journal { result ≡ 4 → (text : Text)
         × (RefusesJournal (texts_of words.now) (claims F.may_hold F.may_fail F.may_leave files.old files.new) text
         (R.remaining input.old.reader) (R.remaining input.new.reader) (W.contents output.old.writer) (W.contents output.new.writer)

@@ -1,4 +1,4 @@
-//! The subcommands with their options and arguments, as `clap` is told of them.
+//! The subcommands with their options and arguments, as they are declared to `clap`.
 
 ghost use Rattle.std.specs.Prelude.{◌≡◌, IfOk, false, true};
 ghost use Rattle.clap.specs.Words.{App, Rule, app_of, new_app, rule_of, with_rule, with_subcommand};
@@ -17,7 +17,7 @@ const PROGRAM: &str = "silo";
 /// The version of the program.
 const VERSION: &str = "0.2.0";
 
-/// An option that takes a text, by the name that stands behind its two hyphens.
+/// An option that takes a text, by the name that follows its two hyphens.
 fn text_option<'a>(alloc: Global, name: &'a str, value: &'a str, help: &'a str) -> Arg<'a>
     ensures rule { rule_of result ≡ text_rule name.entry.now }
     ensures local { result.global ≡ false }

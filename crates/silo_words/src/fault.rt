@@ -1,4 +1,4 @@
-//! What is told instead of a task.
+//! What is returned instead of a task.
 
 ghost use Rattle.std.specs.Prelude.{◌≡◌, IfOk, string_bytes};
 ghost use Rattle.clap.specs.Words.{kind_of};
@@ -69,15 +69,15 @@ pub const MIGRATE_EXAMPLE: &str = concat!(
     " |\n  silo answer --journal day red:2:4 && silo migrate day\n"
 );
 
-/// Why the words ask for nothing.
+/// Why the words make no task.
 #[derive(Debug, Drop, Error)]
 pub enum WordsFault {
     #[error("out of memory")]
     Memory,
-    /// Help was asked for: its text, which ends with the example of the command that it is on.
+    /// Help was requested: its text, which ends with the example of the command that it is on.
     #[error("{0}")]
     Help(String),
-    /// The version was asked for.
+    /// The version was requested.
     #[error("the version was asked for")]
     Version,
     /// The text of what is wrong with the words.
@@ -101,7 +101,7 @@ fn is_same(word: &str, other: &str) -> bool
     word == other
 }
 
-/// The name of the command that the words ask for, if they ask for one: the second word, and behind `help` the third.
+/// The word that names the command: the second, or after `help` the third. Empty if there is no such word.
 fn command_in<'a>(words: &'a [String]) -> &'a str
     ensures { result.now ≡ command_in (texts_of words.entry.now) }
 {

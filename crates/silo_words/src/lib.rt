@@ -1,12 +1,12 @@
 //! The words of the command line: what they ask the program to do.
 //!
-//! A layer above may rely on this: `read_words` gives a task exactly as the words ask for it, and
-//! otherwise tells why they ask for none; `read_tenants` gives the table that a task's tenant arguments
-//! name, or the number of the first that is refused; `read_ages` gives the ages that its text of ages
-//! names. `clap` is known here alone. Its own account of what it makes of words says what they ask for, in
-//! `specs/Words.antt`; what a tenant argument is stands in `specs/Tenants.antt`, and what the text of ages is in
-//! `specs/Ages.antt`. `command` has what `clap` is told of the subcommands, `task` reads what it found, `fault`
-//! what it says instead, `tenants` the tenant arguments, `ages` the ages, and `parts` what both are made of.
+//! A layer above may rely on this: `read_words` returns a task exactly as the words request it, and otherwise why they
+//! request none; `read_tenants` returns the table that a task's tenant arguments name, or the number of the first that
+//! is refused; `read_ages` returns the ages that its text of ages names. Only this crate knows `clap`. What words
+//! request is defined by `clap`'s own account of what it makes of them, in `specs/Words.antt`; what a tenant argument
+//! is, in `specs/Tenants.antt`; and what the text of ages is, in `specs/Ages.antt`. `command` declares the subcommands
+//! to `clap`, `task` reads what it found, `fault` what it says instead, `tenants` the tenant arguments, `ages` the
+//! ages, and `parts` what both are made of.
 #![tactic(auto)]
 
 mod ages;

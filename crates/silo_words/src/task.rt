@@ -1,4 +1,4 @@
-//! What the words ask for, from what `clap` found of a subcommand.
+//! The task that the words request, from what `clap` found of a subcommand.
 
 ghost use Rattle.std.specs.Prelude.{◌≡◌, ◌↔◌, ℕ, List, IfOk, IfErr, IfSome, IfNone, IsTrue, Some, codes, map, option_map};
 ghost use Rattle.clap.specs.Words.{Row, Text, first_of, found_of, one_of, rows_of};
@@ -17,13 +17,13 @@ const DEFAULT_AGE_MILLISECONDS: u64 = 900_000;
 /// The workers when `--workers` is left out.
 const DEFAULT_WORKERS: u64 = 4;
 
-/// The most workers that may be asked for.
+/// The most workers that may be requested.
 const MAX_WORKERS: u64 = 64;
 
-/// The deliveries behind a line when `--sends` is left out.
+/// The most deliveries after a line when `--sends` is left out.
 const DEFAULT_SENDS: u64 = 1_000;
 
-/// The most deliveries that may be asked for.
+/// The most deliveries that may be requested.
 const MAX_SENDS: u64 = 1_000_000;
 
 /// What is said if `--no-sync` stands without `--data`.
@@ -32,7 +32,7 @@ const NO_DATA: &str = "error: '--no-sync' needs '--data <DIR>'\n";
 /// What is said if both stand there.
 const DATA_AND_JOURNAL: &str = "error: '--data <DIR>' and '--journal <PATH>' don't go together\n";
 
-/// What is told of an input that is served, beside its answers.
+/// What is reported about an input that is served, besides its answers.
 #[derive(Clone, Copy, Debug, PartialEq, Eq)]
 pub struct Telling {
     /// Which lines made no step, and why.
@@ -46,11 +46,11 @@ pub struct Telling {
 pub struct Data<'a> {
     /// The folder, as it is written.
     pub path: &'a str,
-    /// Whether replies wait until what they tell is on the disk.
+    /// Whether replies wait until the lines that they answer are on the disk.
     pub sync: bool,
 }
 
-/// What the words ask for. Tenant arguments, ages of kinds and paths are as they are written.
+/// The task that the words request. Tenant arguments, ages of kinds and paths are as they are written.
 #[derive(Drop)]
 pub enum Task<'a> {
     /// Read every step from standard input.
@@ -60,8 +60,9 @@ pub enum Task<'a> {
         tenants: Vec<&'a str>,
     },
 
-    /// Answer each line on standard input before the next is read, with so many deliveries behind it (0 to 1,000,000), and
-    /// write the journal if it has a path, or keep what was answered if there is a folder of data: never both.
+    /// Answer each line on standard input before the next is read, with at most `sends` deliveries after it (0 to
+    /// 1,000,000), and write the journal if it has a path, or keep what was answered if there is a folder of data:
+    /// never both.
     Answer {
         age: Age,
         ages: Option<&'a str>,
@@ -71,8 +72,8 @@ pub enum Task<'a> {
         tenants: Vec<&'a str>,
     },
 
-    /// Serve the clients on standard input by workers (1 to 64), write the journal if it has a path, and tell what is to be
-    /// told.
+    /// Serve the clients on standard input by workers (1 to 64), write the journal if it has a path, and report what
+    /// `telling` selects.
     Serve {
         workers: usize,
         age: Age,
@@ -185,7 +186,7 @@ fn is_set(found: &ArgMatches<'_>, flag: &str) -> bool
     }
 }
 
-/// What the flags ask to tell.
+/// What the flags select to be reported.
 fn telling_of(found: &ArgMatches<'_>) -> Telling
     ensures { IsTelling (rows_of (found_of found.now)) result }
 {

@@ -1,4 +1,4 @@
-//! Tests of logs: their text, batches that are kept before they are told, and silos that start again.
+//! Tests of logs: their text, batches that are kept before their replies are written, and silos that start again.
 #![tactic(auto)]
 
 #[cfg(test)]

@@ -37,7 +37,7 @@ static TOLD: &str = r#"{"from":"red/c1","id":1,"ok":3}
 {"from":"red/c1","id":4,"ok":{"activations":1,"clock":0,"requests":3}}
 "#;
 
-/// A call and what it is told behind these lines.
+/// A call that follows these lines. The reply to it is `NEXT_TOLD`.
 static NEXT: &str =
     r#"{"op":"call","from":"red/c1","id":5,"grain":"counter/red:a","method":"add","args":{"by":1}}
 "#;
@@ -52,7 +52,8 @@ fn new_silo(alloc: Global) -> Result<LoggedSilo, Fail> {
     Ok(AnsweringSilo::new(alloc, setup)?)
 }
 
-/// What a life left: the log, that of it which is on the disk, and what was told.
+/// What a run left: the log, how many bytes of it are on the disk, the replies that were written, and whether it
+/// failed.
 #[derive(Drop)]
 struct Left {
     file: Vec<u8>,
@@ -73,7 +74,7 @@ fn add_acts(left: &mut Left, did: &[Did]) -> Result<(), Fail> {
     Ok(())
 }
 
-/// The first bytes, so many at most.
+/// The first bytes, at most `length` of them.
 fn first_bytes(bytes: &[u8], length: usize) -> &[u8] {
     &bytes[..bytes.len().min(length)]
 }
@@ -111,7 +112,7 @@ fn logged(
     Ok(answer_logged(alloc, &mut input, output, log, place, silo, 10))
 }
 
-/// A life over what is left of a log: it starts, and answers the lines, and the fuse ends it.
+/// A run over what is left of a log: it starts, and answers the lines, and the fuse ends it.
 fn lived(alloc: Global, begun: &[u8], lines: &str, fuse: Fuse) -> Result<Left, Fail> {
     let mut silo = new_silo(alloc)?;
     let start = again(alloc, &mut silo, begun)?;
@@ -171,13 +172,13 @@ fn a_silo_starts_again_as_it_was(rt: HostRuntime) -> Result<(), Fail> {
 /// A line that is no request, and so long that the log has its first 65,537 bytes.
 const LONG: usize = 65_600;
 
-/// So many of them are more than a silo has of history that needn't keep it.
+/// This many of them make a silo that needn't keep its history drop it.
 const MANY: usize = 260;
 
 static LONG_TOLD: &str = r#"{"error":11,"text":"line is too long"}
 "#;
 
-/// What is told for the lines, for so many long ones, and for the next, and how many steps the silo has of its history then.
+/// The replies to the lines of a silo that has a log, and how many steps its history has then.
 fn told_behind_long(alloc: Global, keeps: bool, lines: &[u8]) -> Result<(Vec<u8>, usize), Fail> {
     let mut silo = new_silo(alloc)?;
     if !keeps {
@@ -229,8 +230,8 @@ fn a_silo_that_let_its_history_go_answers_as_ever(rt: HostRuntime) -> Result<(),
     holds("the last line's steps alone", last < steps && last < 4)
 }
 
-/// Whether what was told is the beginning of all that is told, and the log that is left has the lines of it; of the first six lines
-/// five are told a line.
+/// Whether the replies that were written are the beginning of `TOLD`, and the log that is left has at least as many
+/// lines on the disk, and in all at least as many as on the disk. Five of the six lines have a reply.
 fn is_kept(alloc: Global, left: &Left) -> Result<bool, Fail> {
     let told = left.told.iter().filter(|byte| **byte == b'\n').count();
     let kept = answered(alloc, first_bytes(left.file.as_slice(), left.safe))?;

@@ -40,7 +40,7 @@ static SECOND: &str = "+{\"op\":\"tick\",\"now\":5}
 =01234567 0000000000000017 3f7f4ce40a3a6940 4afd8d8f46f55b2b
 ";
 
-/// What was told for the first batch.
+/// The replies to the first batch.
 static TOLD: &str = "{\"from\":\"red/c1\",\"id\":1,\"ok\":3}\n";
 
 /// Fails and shows both texts, if they differ.
@@ -157,7 +157,7 @@ static REFUSED: &str = "+{}\n+{}\n=01234567 0000000000000008 0 0\n=89abcdef 0 0\
 
 static MOVED: &str = "+{}\n+{}\n=01234567 0000000000000004 0 0\n";
 
-/// The second batch behind the first, of which the mark has another first byte.
+/// The first batch, whose mark has another first byte, and the second batch after it.
 static LOST: &str = "+{\"op\":\"call\",\"from\":\"red/c1\",\"id\":1}
 +{\"op\":\"status\",\"from\":\"red/c1\",\"id\":2}
 -01234567 000000000000004e 81fdff9c66986f82 b840605d01797f11

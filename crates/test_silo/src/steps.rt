@@ -1,4 +1,4 @@
-//! Silos that take steps: worked rows of lines, with what is told and stored after them.
+//! Silos that take steps: worked rows of lines, with the replies to them and what is stored after them.
 //!
 //! Any of these tests may be refused its memory: it passes all the same, or says so.
 

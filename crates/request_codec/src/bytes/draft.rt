@@ -76,7 +76,7 @@ fn put_number(out: &mut Vec<u8>, limit: usize, number: i64) -> Result<(), CodecF
     put(out, limit, &bytes)
 }
 
-/// Puts the first byte of a value, and what it holds behind its length, at the end.
+/// Puts at the end the first byte of a value, the length of its content, and the content.
 #[inline(always)]
 fn put_content(out: &mut Vec<u8>, limit: usize, first: u8, content: &[u8]) -> Result<(), CodecFault>
     requires room { length out.old.items ≤ limit }

@@ -77,8 +77,8 @@ fn digit_value(digit: u8) -> u8
     }
 }
 
-/// Writes the bytes of the digits. These are known to be digits, so none is asked for an error, as the `hex` crate does, and the
-/// loop writes many bytes at a time.
+/// Writes the bytes of the digits. These are known to be digits, so none is checked for an error, unlike in the `hex`
+/// crate, and the loop writes many bytes at a time.
 fn decode_into(out: &mut [u8], digits: &[u8])
     requires hex { IsTrue (list_all is_digit digits.now) }
     requires room { length digits.now ≡ 2 * length out.old }

@@ -62,7 +62,7 @@ fn count_of(bytes: &[u8]) -> Option<(u32, &[u8])>
     Some((count, rest))
 }
 
-/// The bytes behind their count at the front, and the bytes after them.
+/// The bytes that follow their count at the front, and the bytes after them.
 #[tactic(auto, unfolding(crate::specs::Reading::bytes_at))]
 #[inline(always)]
 pub fn bytes_of(bytes: &[u8]) -> Option<(&[u8], &[u8])>

@@ -1,4 +1,5 @@
-//! Worked rows: lines, how many sends are delivered behind one at most, and what is written. Each can be followed by hand.
+//! Worked rows: lines, how many sends are delivered after each at most, and what is written. Each row can be followed
+//! by hand.
 //!
 //! The tenants are red and blue, each with 3 activations of 4 waiting requests, and the age is 5. The rows are statics, since a
 //! long text in a test's own body stands in all its goals.
@@ -8,7 +9,7 @@ use line_answer::LineFault;
 /// How the lines end.
 #[derive(Clone, Copy)]
 pub enum End {
-    /// After so many.
+    /// After this many lines.
     After(u64),
     ReadingFails,
     WritingFails,
@@ -26,7 +27,7 @@ impl End {
     }
 }
 
-/// Lines, how many sends are delivered behind one at most, what is written for them, and how they end.
+/// Lines, how many sends are delivered after each at most, what is written for them, and how they end.
 #[derive(Clone, Copy)]
 pub struct Worked {
     pub lines: &'static str,
@@ -52,7 +53,7 @@ const COUNTED_TOLD: &str = r#"{"from":"red/c1","id":1,"ok":3}
 {"from":"red/c1","id":4,"ok":{"activations":1,"clock":0,"requests":3}}
 "#;
 
-/// A counter is asked twice, and saved; its row is poked, and the status asked for.
+/// A counter is called twice, and saved; its row is poked, and the status is requested.
 pub static COUNTED: Worked = Worked {
     lines: COUNTED_LINES,
     most: 10,
@@ -61,7 +62,7 @@ pub static COUNTED: Worked = Worked {
     fails_at: 0,
 };
 
-/// The same, where reading fails behind the lines.
+/// The same, where reading fails after the lines.
 pub static COUNTED_UNTIL_IT_FAILS: Worked = Worked {
     lines: COUNTED_LINES,
     most: 10,
@@ -103,7 +104,7 @@ const SENT_LINES: &str =
 {"op":"call","from":"red/c1","id":5,"grain":"counter/red:a","method":"get"}
 "#;
 
-/// Both sends are delivered behind their line.
+/// Both sends are delivered after their line.
 pub static SENT: Worked = Worked {
     lines: SENT_LINES,
     most: 10,
@@ -119,7 +120,7 @@ pub static SENT: Worked = Worked {
     fails_at: 0,
 };
 
-/// One is, and the other behind red's next line.
+/// One of the sends is delivered after their line, and the other after red's next line.
 pub static SENT_ONE_BY_ONE: Worked = Worked {
     lines: SENT_LINES,
     most: 1,
@@ -135,7 +136,7 @@ pub static SENT_ONE_BY_ONE: Worked = Worked {
     fails_at: 0,
 };
 
-/// None is.
+/// No send is delivered.
 pub static SENT_TO_NOBODY: Worked = Worked {
     lines: SENT_LINES,
     most: 0,

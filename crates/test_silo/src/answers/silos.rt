@@ -74,7 +74,7 @@ pub fn sweep(alloc: Global, silo: &mut TestedSilo) -> Result<bool, Fail> {
     Ok(silo.answer(alloc, Step::Sweep, 0)?)
 }
 
-/// Notes that a line had so many bytes.
+/// Notes that a line of `bytes` bytes was answered.
 pub fn note(alloc: Global, silo: &mut TestedSilo, bytes: usize) {
     silo.note(alloc, bytes);
 }

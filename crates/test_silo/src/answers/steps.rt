@@ -7,7 +7,7 @@ use silo_event::Step;
 use std::alloc::Global;
 use std::test::Fail;
 
-/// Whether the silo took this tick and was swept, and told nobody anything.
+/// Whether the silo took this tick first and was swept last, and made no reply.
 fn is_swept(silo: &TestedSilo, at: u64) -> bool {
     let taken = journal(silo);
     let ticked = matches!(taken.first(), Some(Step::Tick { now }) if now.get() == at);

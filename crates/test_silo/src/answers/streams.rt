@@ -10,7 +10,7 @@ use std::io;
 use std::io::Read;
 use std::test::Fail;
 
-/// Behind the last LF, and what was read is written whole.
+/// Reading fails after the last LF, and the replies to what was read are written whole.
 #[test]
 fn what_was_read_is_answered_before_reading_fails(rt: HostRuntime) -> Result<(), Fail> {
     tried(rt.alloc(), Trial::Lines, &COUNTED_UNTIL_IT_FAILS)
@@ -37,7 +37,7 @@ fn a_line_whose_answer_is_not_written_was_answered(rt: HostRuntime) -> Result<()
     tried(rt.alloc(), Trial::FailingWriter, &COUNTED_UNWRITTEN)
 }
 
-/// Whether so many empty lines are answered.
+/// Whether `count` empty lines are answered.
 pub fn are_empty_answered(alloc: Global, silo: &mut TestedSilo, count: u64) -> Result<bool, Fail> {
     let mut input = Input::new(alloc, io::repeat(b'\n').take(count))?;
     let written: Vec<u8> = Vec::new(alloc);

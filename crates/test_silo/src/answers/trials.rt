@@ -1,4 +1,4 @@
-//! The silos of these tests: each is made, tried and let go in one function, whatever is tried.
+//! The silos of these tests: each is made, tried and dropped in one function, whatever is tried.
 
 use crate::answers::answered::is_answered;
 use crate::answers::dropping::is_dropped;
@@ -17,7 +17,7 @@ pub enum Trial {
     Lines,
     /// So they are, over a writer that fails.
     FailingWriter,
-    /// So many empty lines are answered.
+    /// This many empty lines are answered.
     Empty(u64),
     /// Steps are answered one by one.
     Steps,
@@ -65,7 +65,7 @@ pub fn tried_by(alloc: Global, row: &Worked, seed: u64) -> Result<(), Fail> {
     Ok(())
 }
 
-/// Tries a new silo, which shows so many steps when it is a silo alone.
+/// Tries a new silo. Fails, unless it shows `count` steps when it is a silo alone.
 pub fn tried_to(alloc: Global, trial: Trial, row: &Worked, count: usize) -> Result<(), Fail> {
     holds(counted(alloc, trial, row, None)? == count)
 }

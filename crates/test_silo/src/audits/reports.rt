@@ -48,7 +48,7 @@ fn others_are_reported_behind_the_table(rt: HostRuntime) -> Result<(), Fail> {
     reports_under(rt.alloc(), OTHERS, Kinds, OTHERS_REPORT)
 }
 
-/// Fails, unless so many workers give the report, and a gate was told of each of the three tenants.
+/// Fails, unless `workers` workers give the report, and a gate was called for each of the three tenants.
 fn is_reported_by<R: AllocGlobal + Threads + Wait + Sync>(
     rt: &R,
     workers: usize,
@@ -207,7 +207,7 @@ fn is_taken(alloc: Global, machine: &mut TenantMachine<Kinds>, now: u64) -> Resu
     Ok(taken?)
 }
 
-/// Whether a tick of 5 is taken, one of 4 behind it is not, and nothing is replied or stored.
+/// Whether a tick of 5 is taken, one of 4 after it is not, and nothing is replied or stored.
 fn are_ticks_taken(alloc: Global, machine: &mut TenantMachine<Kinds>) -> Result<bool, Fail> {
     let is_five_taken = is_taken(alloc, machine, 5)?;
     let is_four_taken = is_taken(alloc, machine, 4)?;

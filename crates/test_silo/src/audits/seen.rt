@@ -1,4 +1,5 @@
-//! Audits of journals, and what is seen of their reports: each report is made, looked at and let go in one of three functions.
+//! Audits of journals, and what is seen of their reports: each report is made, looked at and dropped in one of three
+//! functions.
 
 ghost use Rattle.std.specs.Prelude.{◌≤◌};
 
@@ -58,7 +59,7 @@ pub fn seen_under<L: GrainLogic + Copy + Drop>(
     look_at(alloc, &report)
 }
 
-/// What is seen of an audit by so many workers, of which a gate is told.
+/// What is seen of an audit by `workers` workers, with this gate.
 pub fn seen_with<R: AllocGlobal + Threads + Wait + Sync>(
     rt: &R,
     text: &[u8],
@@ -73,7 +74,7 @@ pub fn seen_with<R: AllocGlobal + Threads + Wait + Sync>(
     look_into(rt.alloc(), report)
 }
 
-/// What is seen of an audit by so many workers.
+/// What is seen of an audit by `workers` workers.
 pub fn seen_by<R: AllocGlobal + Threads + Wait + Sync>(
     rt: &R,
     text: &[u8],

@@ -19,7 +19,7 @@ fn is_run<L: GrainLogic>(alloc: Global, silo: &mut SiloOf<L>, row: &Worked) -> R
     Ok(done && is_shown(alloc, silo, row)?)
 }
 
-/// Whether the silo does so, and tells its ages in these lines.
+/// Whether the silo does so, and its ages of kinds make these lines.
 fn is_aged<L: GrainLogic>(
     alloc: Global,
     silo: &mut SiloOf<L>,
@@ -30,7 +30,7 @@ fn is_aged<L: GrainLogic>(
     Ok(ages.as_str() == aged && is_run(alloc, silo, row)?)
 }
 
-/// Runs the row on a new silo of this logic with these ages, which it tells in these lines.
+/// Runs the row on a new silo of this logic with these ages. Fails, unless its ages of kinds make these lines.
 fn run_anew<L: GrainLogic + Drop>(
     alloc: Global,
     logic: L,

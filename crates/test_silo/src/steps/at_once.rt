@@ -24,9 +24,10 @@ static BEFORE: &str =
 {"op":"end","grain":"relay/red:r","turn":2}
 "#;
 
-/// The calls behind that: of a turn that writes, of one that reads, of one that has no value, and of one that sends; then of a turn that
-/// asks for the storage, of a grain that has no activation, of a caller of another tenant, and of the grain whose turn is open; and
-/// behind a tick the first and the second of a grain that was idle. A sweep shows from when that grain is due.
+/// The calls after that: of a turn that writes, of one that reads, of one that has no value, and of one that sends;
+/// then of a turn that makes a storage call, of a grain that has no activation, of a caller of another tenant, and of
+/// the grain whose turn is open; and after a tick the first and the second call of a grain that was idle. A sweep shows
+/// from when that grain is due.
 static CALLS: &str =
     r#"{"op":"call","from":"red/c1","id":3,"grain":"counter/red:a","method":"add","args":{"by":2}}
 {"op":"call","from":"red/c2","id":4,"grain":"counter/red:a","method":"get","args":null}
@@ -99,7 +100,7 @@ fn serve_or_give_back(
     }
 }
 
-/// Takes a call at once, if the silo does so; and tells whether it did.
+/// Takes a call at once if the silo does so, and step by step otherwise. Adds to the text whether it was taken at once.
 fn serve_one(
     alloc: Global,
     bump: &mut Bump,
@@ -118,8 +119,8 @@ fn serve_one(
     Ok(())
 }
 
-/// Takes the calls behind the grains' coming up, each at once if the silo does so; and fails, unless it did so with those calls that
-/// it is to.
+/// Brings the grains up, then takes the calls, each at once if the silo does so. Fails, unless it did so with exactly
+/// those calls for which `AT_ONCE` says so.
 pub fn take_at_once(alloc: Global, silo: &mut TestedSilo, lines: &str) -> Result<(), Fail> {
     take_first(alloc, silo, BEFORE, usize::MAX)?;
     let mut bump = Bump::new(alloc);
@@ -130,7 +131,7 @@ pub fn take_at_once(alloc: Global, silo: &mut TestedSilo, lines: &str) -> Result
     holds(told.as_str() == AT_ONCE)
 }
 
-/// Takes the calls behind the grains' coming up, each step by step.
+/// Brings the grains up, then takes the calls, each step by step.
 pub fn take_by_steps(alloc: Global, silo: &mut TestedSilo, lines: &str) -> Result<(), Fail> {
     take_first(alloc, silo, BEFORE, usize::MAX)?;
     for call in steps_of(alloc, lines)? {

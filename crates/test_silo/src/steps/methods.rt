@@ -53,7 +53,7 @@ pub fn begin(
     silo.begin(alloc, grain)
 }
 
-/// Closes a turn that asks for nothing of the storage.
+/// Closes a turn that makes no storage call.
 pub fn end(
     alloc: Global,
     silo: &mut TestedSilo,
@@ -62,7 +62,7 @@ pub fn end(
     silo.end(alloc, turn)
 }
 
-/// Closes a turn that asks for the storage.
+/// Closes a turn that makes a storage call.
 fn store(
     alloc: Global,
     silo: &mut TestedSilo,
@@ -97,7 +97,7 @@ fn open(
     Ok(Answer::Done)
 }
 
-/// Closes a turn, which asks for the storage or not.
+/// Closes a turn. `asks` says whether it makes a storage call.
 fn close_turn(
     alloc: Global,
     silo: &mut TestedSilo,

@@ -25,7 +25,7 @@ fn done(alloc: Global, silo: &mut TestedSilo, steps: Vec<Step>) -> Option<usize>
     }
 }
 
-/// Whether the silo is where the first so many of the row's lines lead, and told a beginning of what is to be told.
+/// Whether the silo is where the row's first `first` lines lead, and its replies are the beginning of the row's.
 fn is_at(alloc: Global, silo: &TestedSilo, row: &Worked, first: usize) -> Result<bool, Fail> {
     let wanted = shown_anew(alloc, Way::First(first), row.lines)?;
     let same = shown(alloc, silo)?.as_str() == wanted.as_str();
@@ -33,7 +33,7 @@ fn is_at(alloc: Global, silo: &TestedSilo, row: &Worked, first: usize) -> Result
     Ok(same && begins)
 }
 
-/// Runs the lines behind the first so many: whether all were done.
+/// Runs the lines after the first `first` ones, and returns whether all were done.
 fn is_ended(alloc: Global, silo: &mut TestedSilo, lines: &str, first: usize) -> Result<bool, Fail> {
     let rest = steps_behind(alloc, lines, first)?;
     let count = rest.len();

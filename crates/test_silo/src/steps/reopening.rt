@@ -12,8 +12,8 @@ fn reopen(alloc: Global, silo: &mut TestedSilo) -> Result<bool, AllocError> {
     silo.reopen(alloc)
 }
 
-/// Takes a step and opens the silo again, if it is at rest then: what was told until then goes to the end of the text. Whether its
-/// journal and its replies are empty.
+/// Takes a step and opens the silo again, if it is at rest then: the replies until then go to the end of the text.
+/// Returns whether it was opened again, and its journal and its replies are empty.
 fn take_and_reopen(
     alloc: Global,
     silo: &mut TestedSilo,

@@ -1,4 +1,4 @@
-//! Worked rows: lines of steps, with what is told and stored after them. Each can be followed by hand.
+//! Worked rows: lines of steps, with the replies to them and what is stored after them. Each can be followed by hand.
 //!
 //! The tenants are red and blue, each with 2 activations of 4 waiting requests, and the age is 1,000 where a row says no
 //! other. The rows are statics, since a long text in a test's own body stands in all its goals.
@@ -135,7 +135,7 @@ pub static COLLECTED: Worked = Worked {
     failed: 0,
 };
 
-/// What a relay sends across tenants is refused, and the relay is told.
+/// What a relay sends across tenants is refused, and the refusal is a reply to the relay.
 pub static ACROSS: Worked = Worked {
     opened: Opened::OverNone,
     lines: r#"{"op":"call","from":"red/c1","id":1,"grain":"relay/red:r","method":"join","args":{"grain":"counter/blue:x"}}
@@ -406,7 +406,8 @@ pub static SENT: Worked = Worked {
     failed: 0,
 };
 
-/// A counter is asked for what it hasn't, for what doesn't fit, and for more than 64 bits hold.
+/// A counter is called by a method that it hasn't, with an argument that doesn't fit, and to add more than 64 bits
+/// hold.
 pub static REFUSED_METHODS: Worked = Worked {
     opened: Opened::OverNone,
     lines: r#"{"op":"call","from":"red/c1","id":1,"grain":"counter/red:a","method":"fly","args":null}

@@ -21,7 +21,7 @@ fn opened(alloc: Global, silo: &mut TestedSilo) -> Result<OpenedTurn, Fail> {
     }
 }
 
-/// The turn behind the lines, opened and run.
+/// The next turn of the counter after the lines, opened and run.
 fn turn_behind(
     alloc: Global,
     silo: &mut TestedSilo,
@@ -61,7 +61,7 @@ fn is_left(alloc: Global, silo: &mut TestedSilo, turn: &FinishedTurn<Kinds>) -> 
     Ok(stranger && after.as_str() == before.as_str())
 }
 
-/// Whether the silo takes its own turn, and tells what the row is to tell.
+/// Whether the silo takes its own turn, and its replies are the row's.
 fn is_taken(
     alloc: Global,
     silo: &mut TestedSilo,

@@ -24,7 +24,7 @@ fn ended<R: Read + Drop, W: Write>(
     }
 }
 
-/// Whether reading fails behind the row's last LF, and what the row tells was written whole.
+/// Whether reading fails after the row's last LF, and the row's replies were written whole.
 pub fn is_written(alloc: Global, silo: &mut TestedSilo, row: &Worked) -> Result<bool, Fail> {
     let reader = FailingReader {
         rest: row.lines.as_bytes(),

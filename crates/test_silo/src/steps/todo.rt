@@ -9,8 +9,8 @@ use std::alloc::{AllocError, Global};
 use std::test::Fail;
 use test_helpers::lines::steps_of;
 
-/// What is told while a relay is joined by two counters, one of another tenant, and sends to both: before
-/// the first step, and after each.
+/// The lines that `add_line` adds while a relay is joined by two counters, one of another tenant, and sends to both:
+/// before the first step, and after each.
 const TOLD: &str = "none free quiet
 activate pending busy
 activate pending busy
@@ -84,7 +84,7 @@ fn add_step(
     add_line(silo, client, text)
 }
 
-/// What is told around the steps of the lines.
+/// The lines that `add_line` adds before the first of these steps, and after each.
 fn told_around(alloc: Global, silo: &mut TestedSilo, lines: &str) -> Result<String, Fail> {
     let client = Caller::read(alloc, "red/c1")?;
     let mut text = String::new(alloc);
@@ -95,7 +95,7 @@ fn told_around(alloc: Global, silo: &mut TestedSilo, lines: &str) -> Result<Stri
     Ok(text)
 }
 
-/// Whether what is to be told around the steps of the row is told.
+/// Whether the steps of the row give the lines of `TOLD`.
 pub fn is_told_around(alloc: Global, silo: &mut TestedSilo, row: &Worked) -> Result<bool, Fail> {
     Ok(told_around(alloc, silo, row.lines)?.as_str() == TOLD)
 }

@@ -1,5 +1,5 @@
-//! The silos of these tests: each is made, tried and let go in one of two functions, whatever is tried, since each place where a
-//! silo is let go takes seconds of proof.
+//! The silos of these tests: each is made, tried and dropped in one of two functions, whatever is tried, since each
+//! place where a silo is dropped takes seconds of proof.
 
 use crate::steps::arenas::take_in_one_arena;
 use crate::steps::at_once::{take_at_once, take_by_steps};
@@ -34,7 +34,7 @@ pub enum Trial {
     Counts,
     /// A silo shows what it was opened with.
     Opened,
-    /// What there is to do is told around each step.
+    /// What there is to do is shown before the first step and after each.
     Todo,
     /// A turn of another silo is left alone.
     Stranger,
@@ -77,7 +77,7 @@ pub fn tried(alloc: Global, trial: Trial, row: &Worked) -> Result<(), Fail> {
 /// How the steps of lines are taken.
 #[derive(Clone, Copy)]
 pub enum Way {
-    /// The first so many in one run, each turn in an arena of its own.
+    /// This many of the first ones in one run, each turn in an arena of its own.
     First(usize),
     /// All in one arena, which is reset after every other step.
     InOneArena,
@@ -87,7 +87,7 @@ pub enum Way {
     AtOnce,
 }
 
-/// Takes the steps of the first so many lines in one run.
+/// Takes the steps of the first `count` lines in one run.
 pub fn take_first(
     alloc: Global,
     silo: &mut TestedSilo,
@@ -137,7 +137,7 @@ pub fn are_alike(alloc: Global, way: Way, other: Way, lines: &str) -> Result<(),
     holds(shown.as_str() == wanted.as_str())
 }
 
-/// Whether the row is told and stored.
+/// Whether the replies and the stored rows are those of the row.
 pub fn is_shown<L: GrainLogic>(
     alloc: Global,
     silo: &SiloOf<L>,

@@ -18,7 +18,7 @@ use std::alloc::Global;
 use std::test::Fail;
 use test_helpers::lines::{steps_of, stored, told};
 
-/// Takes the step, and adds what it tells.
+/// Takes the step, and adds its replies to the text, after a line that says so if it isn't possible now.
 fn tell_step(
     alloc: Global,
     silo: &mut TestedSilo,
@@ -34,7 +34,7 @@ fn tell_step(
     Ok(())
 }
 
-/// What the lines tell, step by step.
+/// What `tell_step` adds for the lines, step by step.
 fn told_by(alloc: Global, silo: &mut TestedSilo, lines: &str) -> Result<String, Fail> {
     let mut text = String::new(alloc);
     let mut turns = Vec::new(alloc);
@@ -44,7 +44,7 @@ fn told_by(alloc: Global, silo: &mut TestedSilo, lines: &str) -> Result<String, 
     Ok(text)
 }
 
-/// What was told behind the first so many replies.
+/// The text of the replies after the first `first` ones.
 fn told_since(alloc: Global, silo: &TestedSilo, first: usize) -> Result<String, Fail> {
     match replies(silo).get(first..) {
         Some(since) => told(alloc, since),
@@ -120,7 +120,7 @@ fn is_failed_load(answer: Option<&Answer>, noted: Option<&Step>) -> bool {
     matches!(answer, Some(Answer::Failed)) && matches!(noted, Some(Step::Load { failed: true, .. }))
 }
 
-/// Whether the first load of the row fails and is noted so, and the lines tell what they are to tell.
+/// Whether the first load of the row fails and is noted so, and the replies are the row's.
 pub fn fails_to_load(alloc: Global, silo: &mut TestedSilo, row: &Worked) -> Result<bool, Fail> {
     let steps = steps_of(alloc, row.lines)?;
     let answered = answers(alloc, silo, steps)?;
