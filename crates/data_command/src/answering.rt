@@ -53,7 +53,7 @@ fn letting_silo<L: GrainLogic + Drop>(
     Ok(silo)
 }
 
-/// Starts the silo's log, and answers each line of the input, which is in the log before anything is told for it.
+/// Starts the silo's log, then answers each line of the input. A line is in the log before any reply to it is written.
 fn answer_on<L: GrainLogic, F: DataFiles, R: Read, W: Write>(
     alloc: Global,
     silo: &mut AnsweringSilo<MemoryStorage, L>,
@@ -107,17 +107,19 @@ fn answer_on<L: GrainLogic, F: DataFiles, R: Read, W: Write>(
     }
 }
 
-/// Answers each line of the input with at most so many deliveries behind it, by a silo that goes on where the log of the folder ends.
-/// The folder and its log are made if they aren't there. Each line is in the log, and on the disk unless no sync is asked for, before
-/// anything is told for it; what one read brought, of at most 1,048,576 bytes, is told together. The silo drops its history from time to
-/// time, while it answers the log's lines again and behind them.
+/// Answers each line of the input, followed by at most `opening.sends` deliveries, with a silo that goes on where the
+/// log in the folder ends. The folder and its log are made if they aren't there. Each line is in the log, and on the
+/// disk if `folder.sync` is set, before any reply to it is written. The replies to the lines of one read, which brings
+/// at most 1,048,576 bytes, are written together, or in parts if a batch is full before. The silo drops its history
+/// from time to time, while it answers the log's lines again and afterwards.
 ///
 /// # Errors
 ///
-/// `InUse` if another process has the folder; `OtherWords`, `Refused` and `Otherwise` if its log isn't gone on with, and then the log is
-/// as it was. `Read` and `Write` if a call at the folder, of the reader or of the writer failed; `TooMuch` of the input. `Memory` if
-/// memory was refused at any time, also if a turn was given up for want of it. After a fault nothing is told of the lines that aren't
-/// in the log.
+/// `InUse` if another process has the folder; `OtherWords`, `Refused` or `Otherwise` if the silo can't go on with its
+/// log, and then the log is as it was. `Read` or `Write` if a call at the folder, of the reader or of the writer
+/// failed; `TooMuch` if the input has too many lines or needs too many reads. `Memory` if memory was refused at any
+/// time, also if a turn was abandoned for lack of it. After a fault no reply is written to lines that aren't in the
+/// log.
 pub fn answer_data<L: GrainLogic + Drop, F: DataFiles, R: Read, W: Write>(
     alloc: Global,
     opening: DataOpening<L>,

@@ -18,7 +18,8 @@ pub enum DataFault {
     /// That line of the log, counted from 1, is refused.
     Refused(u128),
 
-    /// For the batch that ends with that line of the log, counted from 1, something else would be told than was.
+    /// The batch that ends with that line of the log, counted from 1, would now get other replies than its mark
+    /// records.
     Otherwise(u128),
 }
 

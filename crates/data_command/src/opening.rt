@@ -9,6 +9,6 @@ pub struct DataOpening<L: GrainLogic> {
     pub start: Start<L>,
     /// A random number, which the log gets if it is begun.
     pub number: u64,
-    /// How many deliveries behind a line, at most.
+    /// How many deliveries follow a line, at most.
     pub sends: u64,
 }

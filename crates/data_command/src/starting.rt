@@ -22,8 +22,8 @@ use log_text::{cut_head, is_log, push_head, spell};
 use silo_words::Data;
 use std::alloc::Global;
 
-/// What a log is begun or gone on with: the words of its head, the number of its silo's logic there, the number of a new one, how many
-/// deliveries are behind a line, and the folder.
+/// What a log is begun or continued with: the words of its head, the number of the silo's logic in them, the number
+/// that a new log gets, how many deliveries follow a line at most, and the folder.
 #[derive(Drop)]
 pub(crate) struct LogTask<'a> {
     pub(crate) words: Vec<u8>,
@@ -94,7 +94,7 @@ fn again_fault(head: &[u8], fault: AgainFault) -> DataFault
     }
 }
 
-/// Cuts a log that has these bytes to its first ones, so many, if there are more.
+/// Cuts a log that has these bytes to its first `length` bytes, if it has more.
 #[tactic(auto, using(crate::proofs::Starts::uncut))]
 fn cut_end<F: DataFiles>(files: &mut F, bytes: &[u8], length: usize) -> Result<(), HostFault>
     ensures ok { F.begun files.old ≡ Some bytes.now
@@ -108,7 +108,7 @@ fn cut_end<F: DataFiles>(files: &mut F, bytes: &[u8], length: usize) -> Result<(
     Ok(())
 }
 
-/// Answers the lines of a log again, and cuts off what stands behind its last batch.
+/// Answers the lines of a log again, and cuts off what follows its last batch.
 fn resume_log<F: DataFiles, L: GrainLogic>(
     alloc: Global,
     files: &mut F,

@@ -45,7 +45,7 @@ impl Model for Draft {
 }
 
 impl Draft {
-    /// Nothing is read behind the age.
+    /// A journal of which nothing after the age was read yet.
     pub(crate) fn new(alloc: Global, kinds: u8, age: Age) -> Draft
         ensures { result ≡ history_of kinds age [] [] [] [] [] }
     {
@@ -70,7 +70,7 @@ impl Draft {
         }
     }
 
-    /// Whether the age of that kind may stand behind what is read.
+    /// Whether the age of that kind may follow what was read so far.
     fn kind_fits(&self, kind: &Kind) -> bool
         ensures { result ≡ kind_fits self.now kind.now }
     {
@@ -84,7 +84,7 @@ impl Draft {
         self.tenants.iter().any(|entry| name == entry.0.text())
     }
 
-    /// Whether a tenant of that name may stand behind what is read.
+    /// Whether a tenant of that name may follow what was read so far.
     fn tenant_fits(&self, name: &str) -> bool
         ensures { result ≡ tenant_fits self.now name.now }
     {
@@ -95,14 +95,14 @@ impl Draft {
             && !self.has_tenant(name)
     }
 
-    /// Whether a step may stand behind what is read.
+    /// Whether a step may follow what was read so far.
     fn step_fits(&self) -> bool
         ensures { result ≡ step_fits self.now }
     {
         !self.tenants.is_empty() && self.replies.is_empty() && self.rows.is_empty()
     }
 
-    /// Whether a reply may stand behind what is read.
+    /// Whether a reply may follow what was read so far.
     fn reply_fits(&self) -> bool
         ensures { result ≡ reply_fits self.now }
     {
@@ -119,14 +119,14 @@ impl Draft {
         }
     }
 
-    /// Whether a row of that grain may stand behind what is read.
+    /// Whether a row of that grain may follow what was read so far.
     fn row_fits(&self, grain: &GrainId) -> bool
         ensures { result ≡ row_fits self.now grain.now }
     {
         !self.tenants.is_empty() && self.comes_after_rows(grain)
     }
 
-    /// Whether the last line may stand behind what is read, with that number of steps.
+    /// Whether the last line, with that number of steps, may follow what was read so far.
     pub(crate) fn close_fits(&self, steps: u64) -> bool
         ensures { result ≡ close_fits self.now steps }
     {
@@ -194,8 +194,8 @@ impl Draft {
         Ok(true)
     }
 
-    /// Adds the line if it is a kind's age, a tenant, a step, a reply or a row that may stand behind what is
-    /// read.
+    /// Adds the line if it is a kind's age, a tenant, a step, a reply or a row that may follow what was read so far.
+    /// Returns whether it was added.
     #[tactic(auto, unfolding(crate::specs::inside::Draft::added))]
     pub(crate) fn add(&mut self, line: Line) -> Result<bool, AllocError>
         ensures { AddAnswers self.old line result self.new }
@@ -210,7 +210,7 @@ impl Draft {
         }
     }
 
-    /// The journal, if its close may stand behind what is read.
+    /// The journal that was read. It has to keep the rules of a journal, as it does once its close fits.
     pub(crate) fn finish(self, alloc: Global) -> Result<Journal, AllocError>
         requires { KeepsRulesIn newest self }
         ensures { IfOk result (λ journal. journal ≡ self) }

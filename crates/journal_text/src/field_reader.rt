@@ -27,7 +27,7 @@ fn split(text: &str) -> Option<(&str, &str)>
     text.split_once(' ')
 }
 
-/// The first field, and the fields behind the space after it.
+/// The first field, and the fields after the space that follows it.
 pub(crate) fn cut(text: &str) -> Result<(&str, &str), LineFault>
     ensures { Reads (λ parts. (parts.0.now, parts.1.now)) result (cut_at 32 text.now) }
 {

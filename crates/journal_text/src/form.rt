@@ -11,9 +11,9 @@ ghost use Rattle.journal_text.specs.declared.line.Line.TheVariants as line;
 pub enum Form {
     /// `silo-journal 1`.
     First,
-    /// `silo-journal 2`: it tells which logic the kinds have, and their ages.
+    /// `silo-journal 2`: it says which logic the kinds have, and may give their ages.
     Second,
-    /// `silo-journal 3`: messages have the form of now, and bytes may stand among values.
+    /// `silo-journal 3`: messages have the current form, and bytes may occur among values.
     Third,
 }
 
@@ -36,7 +36,7 @@ impl Form {
         }
     }
 
-    /// Whether a journal of the form tells which logic its kinds have, and may tell their ages.
+    /// Whether a journal of the form says which logic its kinds have, and may give their ages.
     pub(crate) fn tells_kinds(self) -> bool
         ensures { result ≡ tells_kinds self }
     {

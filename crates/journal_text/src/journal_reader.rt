@@ -30,7 +30,7 @@ fn break_at(bytes: &[u8]) -> Option<usize>
     memchr(b'\n', bytes)
 }
 
-/// The text before the first LF, and the bytes behind it, if there is an LF and a text before it.
+/// The text before the first LF, and the bytes after that LF, if there is one and the bytes before it are UTF-8.
 fn cut_line(bytes: &[u8]) -> Option<(&str, &[u8])>
     ensures { CutsLine bytes.now (option_map (λ cut. (cut.0.now, cut.1.now)) result) }
 {
@@ -43,7 +43,7 @@ fn cut_line(bytes: &[u8]) -> Option<(&str, &[u8])>
     }
 }
 
-/// The line that the bytes begin with, and the bytes behind its LF, if they begin with a whole line.
+/// The line that the bytes begin with, and the bytes after its LF, if they begin with a whole line.
 fn next_line<'a>(
     alloc: Global,
     form: Form,
@@ -84,7 +84,7 @@ fn age_of(line: &Line) -> Option<Age>
     }
 }
 
-/// The form that the head names, and what stands behind the head, if the bytes begin with one.
+/// The form that the head names, and what follows the head, if the bytes begin with one.
 fn next_head(bytes: &[u8]) -> Option<(Form, &[u8])>
     ensures { BeginsWithHead bytes.now (option_map (λ next. (next.0, next.1.now)) result) }
 {
@@ -97,7 +97,7 @@ fn next_head(bytes: &[u8]) -> Option<(Form, &[u8])>
     }
 }
 
-/// The number of a logic, and what stands behind its line, if the bytes begin with one.
+/// The number of a logic, and what follows its line, if the bytes begin with such a line.
 fn next_kinds_line<'a>(
     alloc: Global,
     form: Form,
@@ -118,7 +118,8 @@ fn next_kinds_line<'a>(
     }
 }
 
-/// Which logic the kinds have, and what stands behind its line, if the form has such a line.
+/// Which logic the kinds have, and what follows the line that says so, if the bytes begin with one. In a form without
+/// such a line it is logic 1, and all of the bytes follow.
 fn next_kinds<'a>(
     alloc: Global,
     form: Form,
@@ -134,7 +135,7 @@ fn next_kinds<'a>(
     }
 }
 
-/// The age, and what stands behind its line, if the bytes begin with one.
+/// The age, and what follows its line, if the bytes begin with such a line.
 fn next_age<'a>(
     alloc: Global,
     form: Form,
@@ -154,7 +155,7 @@ fn next_age<'a>(
     }
 }
 
-/// What the first lines say, and the bytes behind them.
+/// What the first lines say, and the bytes after them.
 #[derive(Clone, Copy)]
 struct Start<'a> {
     form: Form,
@@ -163,7 +164,7 @@ struct Start<'a> {
     behind: &'a [u8],
 }
 
-/// The form, the number of the logic, the age, and the bytes behind the first lines.
+/// The form, the number of the logic, the age, and the bytes after the first lines.
 fn read_start<'a>(
     alloc: Global,
     scratch: &mut LineScratch,
@@ -193,8 +194,7 @@ fn read_start<'a>(
     }
 }
 
-/// The journal of a draft, if its last line, which has that number, may stand there and nothing
-/// stands behind it.
+/// The journal of a draft, if its last line, which is line `number`, may come there and nothing follows it.
 fn closed(
     alloc: Global,
     form: Form,
@@ -218,7 +218,7 @@ fn closed(
     Ok(draft.finish(alloc)?)
 }
 
-/// The journal whose lines behind the first ones these are.
+/// The journal whose lines after the first ones are in `bytes`.
 fn read_parts(
     alloc: Global,
     form: Form,

@@ -38,7 +38,7 @@ pub struct JournalParts<'a> {
     pub rows: &'a [(GrainId, Row)],
 }
 
-/// Adds the line that tells which logic the kinds have, if the form has such a line.
+/// Adds the line that says which logic the kinds have, if the form has such a line.
 fn push_logic(form: Form, text: &mut String, kinds: u8) -> Result<(), AllocError>
     ensures { OnOk result (string_bytes text.new ≡ string_bytes text.old ++ lines_text form (kinds_lines form kinds)) }
 {
@@ -146,7 +146,7 @@ fn push_before(
     push_steps(alloc, text, steps)
 }
 
-/// Adds the lines that stand behind the replies, the last with the number of steps.
+/// Adds the lines that follow the replies: the rows, and the last line, with the number of steps.
 fn push_behind(
     alloc: Global,
     text: &mut String,

@@ -1,5 +1,5 @@
-//! What the types of a journal's parts keep of its rules. These functions look at each part and do nothing else: the names,
-//! messages, states and moments in it tell their own rules to the proof.
+//! Which rules of a journal the types of its parts keep. These functions look at each part and do nothing else. This
+//! gives the proof the rules that the types of names, messages, states and moments keep.
 
 ghost use Rattle.std.specs.Prelude.{All, map};
 ghost use Rattle.hex.specs.Hex.{IsBytes};
@@ -125,7 +125,7 @@ fn see_fault(fault: &Fault)
     }
 }
 
-/// What a reply tells keeps the rules.
+/// The outcome of a reply keeps the rules.
 fn see_outcome(outcome: &Result<StateBytes, Fault>)
     ensures { IsOutcome written (recorded_outcome outcome.now) }
 {
@@ -135,7 +135,7 @@ fn see_outcome(outcome: &Result<StateBytes, Fault>)
     }
 }
 
-/// A reply keeps the rules, if the number of the client that is told does.
+/// A reply keeps the rules, if the number of the client that gets it does.
 fn see_reply(reply: &Reply)
     ensures { KeepsReply reply.now }
 {

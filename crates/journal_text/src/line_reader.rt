@@ -56,7 +56,7 @@ fn is_kinds(number: u64) -> bool
     1 <= number && number <= u64::from(newest())
 }
 
-/// What stands behind `kinds`, in a form that tells it.
+/// What follows `kinds`, in a form that has such a line.
 fn parse_kinds(form: Form, field: &str) -> Result<u8, LineFault>
     ensures gives { Reads (λ read. read) result (kinds_of form field.now) }
     ensures is_kinds { IfOk result (λ kinds. IsTrue (tells_kinds form) × IsKinds kinds) }
@@ -69,7 +69,7 @@ fn parse_kinds(form: Form, field: &str) -> Result<u8, LineFault>
     }
 }
 
-/// What stands behind `age`.
+/// What follows `age`.
 fn parse_age(field: &str) -> Result<Age, LineFault>
     ensures gives { Reads (λ read. read) result (age_of field.now) }
     ensures in_range { IfOk result IsAge }
@@ -94,7 +94,7 @@ fn parse_kind_name(alloc: Global, field: &str) -> Result<Kind, LineFault>
     }
 }
 
-/// What stands behind `kind`, in a form that tells the ages of kinds.
+/// What follows `kind`, in a form that may give the ages of kinds.
 fn parse_kind(alloc: Global, form: Form, fields: &str) -> Result<(Kind, Age), LineFault>
     ensures gives { Reads (λ read. read) result (kind_of form fields.now) }
     ensures well_formed { IfOk result (λ read. IsTrue (tells_kinds form) × IsTrue (is_word read.0) × IsAge read.1) }
@@ -142,7 +142,7 @@ fn parse_limits(activations: u64, mailbox: u64) -> Result<Limits, LineFault>
     }
 }
 
-/// What stands behind `tenant`.
+/// What follows `tenant`.
 fn parse_tenant(alloc: Global, fields: &str) -> Result<(Tenant, Limits), LineFault>
     ensures gives { Reads (λ read. read) result (tenant_of fields.now) }
     ensures well_formed { IfOk result (λ read. IsTrue (is_word read.0) × IsTrue (are_in_range read.1)) }
@@ -202,7 +202,7 @@ fn parse_outcome(
     }
 }
 
-/// What stands behind `reply`.
+/// What follows `reply`.
 fn parse_reply(
     alloc: Global,
     form: Form,
@@ -246,7 +246,7 @@ fn parse_version(field: &str) -> Result<u64, LineFault>
     }
 }
 
-/// What stands behind `row`.
+/// What follows `row`.
 fn parse_row(
     alloc: Global,
     form: Form,
@@ -264,7 +264,7 @@ fn parse_row(
     Ok((grain, Row { version, content }))
 }
 
-/// What stands behind `silo-journal`.
+/// What follows `silo-journal`.
 fn parse_head(form: Form, field: &str) -> Result<Line, LineFault>
     ensures gives { Reads (λ read. read) result (head_of form field.now) }
     ensures is_line { IfOk result (IsLine form) }
@@ -291,7 +291,7 @@ fn parse_step_line(
     Ok(Line::Step(step))
 }
 
-/// What a word and the fields behind it may be the line of.
+/// The line that a word and the fields after it make, if they make one.
 fn parse_named(
     alloc: Global,
     form: Form,

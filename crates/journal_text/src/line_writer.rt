@@ -39,7 +39,7 @@ fn push_refuse(text: &mut String, caller: &Caller, id: u64, code: Refusal) -> Re
     write!(text, "refuse {caller} {id} {code}\n")
 }
 
-/// The bytes of a message behind the first one, which are the same in each form.
+/// The bytes of a message after the first one, which are the same in each form.
 fn behind_first(message: &Message) -> &[u8]
     ensures { result.now ≡ text_spelling message.now.method ++ spelling message.now.argument }
 {
@@ -210,7 +210,7 @@ pub(crate) fn push_kinds(text: &mut String, kinds: u8) -> Result<(), AllocError>
     push_number(text, "kinds", u64::from(kinds))
 }
 
-/// Adds the line of a kind with an age of so many milliseconds.
+/// Adds the line of a kind with an age of `age` milliseconds.
 pub(crate) fn push_kind(text: &mut String, kind: &Kind, age: u64) -> Result<(), AllocError>
     ensures { OnOk result (string_bytes text.new ≡ string_bytes text.old ++ (line_text newest (line.Kind kind.now age) ++ 10 ∷ [])) }
 {
@@ -218,7 +218,7 @@ pub(crate) fn push_kind(text: &mut String, kind: &Kind, age: u64) -> Result<(), 
     write!(text, "kind {kind} {age}\n")
 }
 
-/// Adds the line of an age of so many milliseconds.
+/// Adds the line of an age of `age` milliseconds.
 pub(crate) fn push_age(text: &mut String, age: u64) -> Result<(), AllocError>
     ensures { OnOk result (string_bytes text.new ≡ string_bytes text.old ++ (line_text newest (line.Age age) ++ 10 ∷ [])) }
 {

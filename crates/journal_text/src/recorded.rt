@@ -68,7 +68,7 @@ fn are_text_bytes(bytes: &[u8]) -> bool
     bytes.iter().all(|byte| matches!(*byte, 0x20..=0x7e))
 }
 
-/// The fault that stands behind `no`.
+/// The fault that follows `no`.
 #[tactic(auto, unfolding(crate::specs::RecordedFault::is_recorded_fault))]
 pub(crate) fn parse_recorded_fault(
     alloc: Global,

@@ -19,7 +19,7 @@ use request_codec::SharedState;
 use silo_event::{Moment, Step};
 use std::alloc::Global;
 
-/// What stands behind `refuse`.
+/// What follows `refuse`.
 fn parse_refuse(
     alloc: Global,
     form: Form,
@@ -37,7 +37,7 @@ fn parse_refuse(
     Ok(Step::Refuse { caller, id, code })
 }
 
-/// What stands behind `call`.
+/// What follows `call`.
 fn parse_call(
     alloc: Global,
     form: Form,
@@ -62,7 +62,7 @@ fn parse_call(
     })
 }
 
-/// What stands behind `status`.
+/// What follows `status`.
 fn parse_status(alloc: Global, names: &mut NameCache, fields: &str) -> Result<Step, LineFault>
     ensures gives { Reads (λ read. read) result (status_of fields.now) }
     ensures is_step { (form : Form) → IfOk result (IsStep form) }
@@ -73,7 +73,7 @@ fn parse_status(alloc: Global, names: &mut NameCache, fields: &str) -> Result<St
     Ok(Step::Status { caller, id })
 }
 
-/// What stands behind `poke`.
+/// What follows `poke`.
 fn parse_poke(
     alloc: Global,
     form: Form,
@@ -101,7 +101,7 @@ fn parse_poke(
     })
 }
 
-/// What stands behind `load`.
+/// What follows `load`.
 fn parse_load(alloc: Global, names: &mut NameCache, fields: &str) -> Result<Step, LineFault>
     ensures gives { Reads (λ read. read) result (load_of fields.now) }
     ensures is_step { (form : Form) → IfOk result (IsStep form) }
@@ -112,7 +112,7 @@ fn parse_load(alloc: Global, names: &mut NameCache, fields: &str) -> Result<Step
     Ok(Step::Load { grain, failed })
 }
 
-/// What stands behind `store`.
+/// What follows `store`.
 fn parse_store(alloc: Global, names: &mut NameCache, fields: &str) -> Result<Step, LineFault>
     ensures gives { Reads (λ read. read) result (store_of fields.now) }
     ensures is_step { (form : Form) → IfOk result (IsStep form) }
@@ -129,7 +129,7 @@ fn parse_store(alloc: Global, names: &mut NameCache, fields: &str) -> Result<Ste
     })
 }
 
-/// A grain and a turn, behind `end` and `abandon`.
+/// A grain and a turn, as they follow `end` and `abandon`.
 fn parse_turn(
     alloc: Global,
     names: &mut NameCache,
@@ -144,7 +144,7 @@ fn parse_turn(
     Ok((grain, turn))
 }
 
-/// What stands behind `tick`.
+/// What follows `tick`.
 fn parse_tick(field: &str) -> Result<Step, LineFault>
     ensures gives { Reads (λ read. read) result (tick_of field.now) }
     ensures is_step { (form : Form) → IfOk result (IsStep form) }
@@ -156,7 +156,7 @@ fn parse_tick(field: &str) -> Result<Step, LineFault>
     }
 }
 
-/// The step of a word and the fields behind it.
+/// The step of a word and the fields after it.
 pub(crate) fn parse_step(
     alloc: Global,
     form: Form,

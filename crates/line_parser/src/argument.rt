@@ -1,7 +1,7 @@
 //! An argument, written from the tokens of a line as the bytes that spell it. If it is too deep or a number of it isn't
 //! whole, that is noted, and null stands for the number. A map that stands for bytes is put as these, if it is spelled
-//! plainly; a line with another whose only name is `$hex` is left. `limit` is in bytes: what is put to has no more than so
-//! many, with what it had before.
+//! plainly; a line with another whose only name is `$hex` is left. `limit` is a number of bytes: what is appended to
+//! has at most that many, with what it had before.
 
 ghost use Rattle.std.specs.Prelude.{◌≡◌, ◌<◌, ◌≤◌, ◌^◌, ◌+◌, ◌++◌, ◌∷◌, [], ℕ, List, length, OnOk, IsSome, IsTrue, IsUtf8, true, false};
 ghost use Rattle.std.specs.Int.{w32, to_be_bytes};
@@ -21,7 +21,7 @@ use crate::tokens::Tokens;
 use json::Token;
 use request_codec::bytes::{Start, are_digits, put_digits, put_start, put_text};
 
-/// So many levels are left for a value right below an argument's 32nd level; they are counted down from `MEMBER_DEPTH`.
+/// How many levels are left for a value right below an argument's 32nd level, counted down from `MEMBER_DEPTH`.
 const TOO_DEEP: usize = 94;
 
 /// The same text; the proof sees that its bytes are UTF-8.
@@ -47,7 +47,7 @@ fn set_count(out: &mut Vec<u8>, at: usize, count: u32)
     out[at + 3] = bytes[3];
 }
 
-/// Notes that the argument is too deep, if a value with so many levels left lies below its 32nd level.
+/// Notes that the argument is too deep, if a value with `depth` levels left lies below its 32nd level.
 #[inline(always)]
 fn note_depth(faults: &mut Faults, depth: usize)
     ensures { AddsFaults faults.old faults.new (is_deep depth 1) false }

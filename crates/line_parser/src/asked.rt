@@ -1,4 +1,4 @@
-//! What a client asks for: a call or a poke, or the step that refuses it.
+//! What a client requests: a call or a poke, or the step that refuses it.
 
 ghost use Rattle.std.specs.Prelude.{◌≡◌, ◌≤◌, IfOk};
 ghost use Rattle.serde_json.specs.View.{view};

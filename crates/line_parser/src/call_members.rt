@@ -24,7 +24,7 @@ pub(crate) enum Last {
     Other,
 }
 
-/// Puts the bytes of the value that a text begins with in place of others, if the object and the line end behind it.
+/// Replaces `bytes` by the bytes of the value that a text begins with, if the object and the line end after the value.
 #[inline(never)]
 fn take_last(value: &str, scratch: &mut Scratch, bytes: &mut Vec<u8>) -> Result<Last, QuickFault>
     ensures { IfOk result (λ last. TakesLast (tokens value.now) last bytes.new.items) }

@@ -28,7 +28,7 @@ impl Faults {
         }
     }
 
-    /// Why the value is refused, if it is: its depth is asked for before its numbers.
+    /// Why the value is refused, if it is: its depth is looked at before its numbers.
     #[inline(always)]
     pub(crate) fn refusal(self) -> Option<Refusal>
         ensures { result ≡ why_of self }

@@ -12,7 +12,7 @@ use arrayvec::ArrayVec;
 use request_codec::bytes::may_follow;
 use std::alloc::{AllocError, Global};
 
-/// So many fields of a map are noted in place; the more there are, the longer it takes to make the place ready.
+/// How many fields of a map are noted in place. The more room there is, the longer it takes to make it ready.
 const FEW_FIELDS: usize = 4;
 
 /// What is kept of a field: its name, where its bytes begin, and how many they are.
@@ -44,7 +44,7 @@ pub(crate) fn is_hex_name(name: &str) -> bool
     name == "$hex"
 }
 
-/// Puts a part of these bytes behind others.
+/// Appends a part of these bytes to `sorted`.
 fn put_part(sorted: &mut Vec<u8>, bytes: &[u8], start: u32, count: u32) -> Result<(), AllocError>
     requires { start + count ≤ length bytes.now }
     ensures { OnOk result (sorted.new.items ≡ sorted.old.items ++ slice_range bytes.now start (start + count)) }
@@ -53,8 +53,8 @@ fn put_part(sorted: &mut Vec<u8>, bytes: &[u8], start: u32, count: u32) -> Resul
     sorted.extend_from_slice(&bytes[start..start + count as usize])
 }
 
-/// Puts the bytes of these fields behind one another. A line in which a name isn't above the one before it is
-/// left.
+/// Appends the bytes of these fields to `sorted`, one after another. If a name isn't above the one before it, the line
+/// is left to the tree.
 fn put_in_order(sorted: &mut Vec<u8>, bytes: &[u8], known: &[Known<'_>]) -> Result<(), QuickFault>
     requires { LieWithin (length bytes.now) (map place_kept known.now) }
     ensures ascend { OnOk result (Ascend None (map place_kept known.now)) }
@@ -131,7 +131,7 @@ impl<'a> Fields<'a> {
         Ok(())
     }
 
-    /// Puts the bytes of the fields behind one another, in the order of their names.
+    /// Appends the bytes of the fields to `sorted`, in the order of their names.
     fn put_sorted(&mut self, sorted: &mut Vec<u8>, bytes: &[u8]) -> Result<(), QuickFault>
         requires { (placed : List PlacedField) × (front : List ℕ) × (start : ℕ) × HoldsFields placed self.old
             × AreBehind placed start front bytes.now }

@@ -95,7 +95,7 @@ impl<'a> LineMembers<'a> {
     }
 }
 
-/// The levels that a member's value may have: what is left of 127 behind the line's object.
+/// The levels that a member's value may have: what the line's object leaves of 127.
 pub(crate) const MEMBER_DEPTH: usize = 126;
 
 /// The bytes that are put for a value, at most: more than any line spells, of which two bytes stand for nine at most.
@@ -281,7 +281,7 @@ fn read_further<'a>(
     reader.ends()
 }
 
-/// The same of the object's text behind the members that were passed.
+/// The same as `read_further`, for the object's text after the members that were passed.
 #[inline(never)]
 fn read_rest<'a>(
     rest: &'a str,

@@ -81,7 +81,7 @@ fn with_value<'v>(value: &'v Value, count: usize, args: bool, state: bool) -> Li
     }
 }
 
-/// The members, with the value that a form of so many members may have.
+/// The members, with the value that a form with `count` members may have.
 fn members_of<'v>(value: &'v Value, count: usize) -> (LineMembers<'v>, ValueIn<'v>)
     requires { (n : ℕ) → has_members n (view value.now) ≡ (count == n) }
     ensures { AreMembersOf (view value.now) result.0 result.1 }

@@ -1,5 +1,5 @@
-//! A line whose last member is one for which a whole number from 0 up is asked, and that has another value: a text, a truth
-//! value, null or another number. The members in front of it are texts and whole numbers that are spelled plainly.
+//! A line whose last member has to be a whole number from 0 up, and has another value: a text, a truth value, null or
+//! another number. The members in front of it are texts and whole numbers that are spelled plainly.
 
 ghost use Rattle.std.specs.Prelude.{◌≡◌, ℕ, List, IsTrue, IfOk, None, Some, option_and_then};
 ghost use Rattle.json.specs.Lex.{tokens};
@@ -19,7 +19,7 @@ use crate::quick_fault::QuickFault;
 use crate::tokens::Tokens;
 use json::{Scratch, Token};
 
-/// Whether a whole number from 0 up is asked for the member, and it wasn't there yet.
+/// Whether the member has to be a whole number from 0 up, and wasn't there yet.
 fn is_unset(members: &LineMembers<'_>, name: Name) -> bool
     ensures { IsTrue result → IsUnset name members.now }
 {
@@ -54,7 +54,7 @@ fn is_not_natural(token: Token<'_>) -> bool
     }
 }
 
-/// Whether a text begins with such a token, and the object and the line end behind it.
+/// Whether a text begins with such a token, and the object and the line end after it.
 fn ends_not_natural(value: &str, scratch: &mut Scratch) -> Result<bool, QuickFault>
     ensures { IfOk result (λ so. IsTrue so → EndsNotNatural (tokens value.now)) }
 {

@@ -67,7 +67,7 @@ fn unsigned_of(numeral: &Numeral<'_>) -> Option<u64>
     numeral.to_u64()
 }
 
-/// The number of a numeral behind a minus, if it is whole, below 0 and has 64 bits.
+/// The number of a numeral after a minus, if it is whole, below 0 and fits into an `i64`.
 fn negative_of(numeral: &Numeral<'_>) -> Option<i64>
     ensures read { IfSome result (λ n. number_from true numeral.now ≡ Some (of_integer n)) }
     ensures fits { IfSome result (λ n. FitsSigned w64 n) }
@@ -134,7 +134,7 @@ fn is_unsigned_not_whole(numeral: &Numeral<'_>) -> bool
     }
 }
 
-/// Whether the number of a numeral behind a minus is read, but is no whole one of 64 bits below 0.
+/// Whether the number of a numeral after a minus is read, but is no whole one below 0 that fits into an `i64`.
 fn is_negative_not_whole(numeral: &Numeral<'_>) -> bool
     ensures { IsTrue result → IsNotWhole (number_from true numeral.now) }
 {

@@ -68,7 +68,8 @@ fn ends_number(byte: u8) -> bool
     byte == b',' || byte == b'}' || byte == b']'
 }
 
-/// Whether so many digits at the front are a number's: there are some, and no zero in front of others.
+/// Whether the `len` digits at the front form a number: there is at least one, and a zero comes first only if it is the
+/// only one.
 #[inline(always)]
 fn are_of_number(rest: &str, len: usize) -> bool
     ensures some { IsTrue result → 0 < len }
@@ -137,7 +138,7 @@ fn opens(byte: u8) -> bool
     byte == b'"' || byte == b'{' || byte == b'[' || byte.is_ascii_digit()
 }
 
-/// What follows the comma behind a value, if a name or a text follows it.
+/// What follows the comma after a value, if that is a name or a text.
 #[inline(always)]
 fn pass_comma<'t>(rest: &'t str) -> Option<&'t str>
     ensures { IfSome result (λ after. PassesValue rest.now after.now) }
@@ -170,7 +171,7 @@ fn pass_value<'t>(rest: &'t str) -> Option<&'t str>
     }
 }
 
-/// The same behind the value of a member, where mostly a name comes.
+/// The same as `pass_value`, after the value of a member: mostly a name follows there, and is looked for first.
 #[inline(always)]
 fn pass_member<'t>(rest: &'t str) -> Option<&'t str>
     ensures { IfSome result (λ after. PassesValue rest.now after.now) }
@@ -324,7 +325,7 @@ pub(crate) fn plain_name<'t>(rest: &'t str) -> Option<(Name, &'t str)>
     }
 }
 
-/// A form's word as it is spelled plainly, with its quotes and the comma behind it.
+/// A form's word as it is spelled plainly, with its quotes and the comma after it.
 #[inline(always)]
 fn spelled_word(form: Form) -> &'static str
     ensures { result.now ≡ word_spelling form }
@@ -345,8 +346,8 @@ fn spelled_word(form: Form) -> &'static str
     }
 }
 
-/// The form, if its word is the text that is the first token and a name or a text stands behind it, and what follows its
-/// comma.
+/// The form, and what follows the comma after its word, if the first token is that word as a text, and a name or a text
+/// comes next.
 #[inline(always)]
 pub(crate) fn past_word<'t>(rest: &'t str, form: Form) -> Option<(Form, &'t str)>
     ensures { IfSome result (λ cut. tokens rest.now ≡ string (form_text cut.0) ∷ tokens cut.1.now) }
@@ -362,7 +363,8 @@ pub(crate) fn past_word<'t>(rest: &'t str, form: Form) -> Option<(Form, &'t str)
     Some((form, after))
 }
 
-/// The same of the form that the text most likely names, of those that name a grain and no client: a byte tells it, or two.
+/// The same for the form that the text most likely names, of those that name a grain and no client. One or two bytes
+/// decide which form that is.
 #[inline(always)]
 pub(crate) fn past_likely_word<'t>(rest: &'t str) -> Option<(Form, &'t str)>
     ensures { IfSome result (λ cut. tokens rest.now ≡ string (form_text cut.0) ∷ tokens cut.1.now) }

@@ -133,8 +133,8 @@ fn take_both<'a>(
     take_named(members, behind, second)
 }
 
-/// Takes `op`, if it is `call`, `from` and `id`, if they stand in front, `op` ahead of the two others or behind them: what
-/// follows them.
+/// Takes `op`, which has to be `call`, and `from` and `id`, if these three come first, with `op` before or after the
+/// two others. Returns what follows them.
 #[inline(always)]
 fn past_client<'a>(members: &mut LineMembers<'a>, rest: &'a str) -> Option<&'a str>
     ensures { IfSome result (λ after. (begun : List Token) (l : List ℕ) → MembersRead begun (tokens rest.now) members.old l

@@ -43,7 +43,7 @@ fn read_json(alloc: Global, line: &[u8]) -> Result<Option<Value>, AllocError>
     }
 }
 
-/// What a line says, by the step that it asks for.
+/// What a line says, by the step that it requests.
 #[inline(always)]
 fn line_of(step: Option<Step>) -> Line
     ensures { result ≡ meaning_by step }
@@ -76,7 +76,7 @@ impl LineScratch {
     }
 }
 
-/// The step that JSON asks for.
+/// The step that JSON requests.
 fn read_step(
     alloc: Global,
     scratch: &mut LineScratch,
@@ -143,7 +143,7 @@ fn text_of(line: &[u8]) -> Option<&str>
     from_utf8(line).ok()
 }
 
-/// The step of a line, if it asks for one, in one pass over its tokens.
+/// The step of a line, if it requests one, in one pass over its tokens.
 fn read_text_step(
     alloc: Global,
     scratch: &mut LineScratch,
@@ -166,8 +166,8 @@ fn read_text_step(
     Ok(step)
 }
 
-/// The step of a line, if it is an `op`, a grain and maybe a turn, in this order and spelled plainly, and asks for one: it is
-/// made from the text alone. If there is none, the line may ask for a step still.
+/// The step of a line, if it is an `op`, a grain and maybe a turn, in this order and spelled plainly, and requests a
+/// step. The step is made from the text alone. If none is returned, the line may still request one.
 #[inline(always)]
 fn read_short_step(
     alloc: Global,
@@ -190,8 +190,8 @@ fn read_short_step(
     )
 }
 
-/// The step of a line, if it is a call in the order in which calls are mostly written: its members but the argument never go
-/// through a table. If there is none, the line may ask for a step still.
+/// The step of a line, if it is a call in the order in which calls are mostly written. Its members but the argument
+/// never go through a table. If none is returned, the line may still request a step.
 #[inline(always)]
 fn read_call_step(
     alloc: Global,
@@ -215,7 +215,7 @@ fn read_call_step(
     Ok(found)
 }
 
-/// What a line says, if its last member has another value than the whole number that is asked for.
+/// What a line says, if its last member has to be a whole number and has another value.
 #[inline(never)]
 fn read_not_natural(
     alloc: Global,
@@ -311,8 +311,8 @@ fn is_likely_call(text: &str) -> bool
     byte == b'c' || byte == b':'
 }
 
-/// What a line says, without its LF. The quick reader tells it without a tree; a line that it leaves
-/// goes to `serde_json`.
+/// What a line says, which is given without its LF. The fast paths find it without a tree; a line that they leave goes
+/// to `serde_json`.
 pub fn read_line(alloc: Global, scratch: &mut LineScratch, line: &[u8]) -> Result<Line, AllocError>
     ensures { IfOk result (λ said. said ≡ meaning_of line.now) }
 {

@@ -1,4 +1,4 @@
-//! The step that the members of a line ask for.
+//! The step that the members of a line request.
 
 ghost use Rattle.std.specs.Prelude.{◌≡◌, Some, None, IfSome, IfNone, IfOk, option_map};
 ghost use Rattle.serde_json.specs.Data.{Data};
@@ -229,7 +229,7 @@ fn sweep_from(members: &LineMembers<'_>) -> Option<Step>
     Some(Step::Sweep)
 }
 
-/// The step that the members ask for, if they are those of the form.
+/// The step that the members request, if they are those of the form.
 #[inline(always)]
 fn read_form(
     alloc: Global,
@@ -268,7 +268,7 @@ fn read_form(
     }
 }
 
-/// The step that the members ask for.
+/// The step that the members request.
 #[inline(always)]
 pub(crate) fn step_from(
     alloc: Global,
@@ -289,7 +289,7 @@ pub(crate) fn step_from(
     read_form(alloc, names, messages, members, value, form)
 }
 
-/// The step that the members of a line ask for, if `op` names the form.
+/// The step that the members of a line request, whose `op` has to name the form.
 #[inline(always)]
 pub(crate) fn step_of_form(
     alloc: Global,
@@ -306,7 +306,7 @@ pub(crate) fn step_of_form(
     read_form(alloc, names, messages, members, value, form)
 }
 
-/// The step that the members of a line ask for, if `op` is `call`. If there is none, they may ask for a step still.
+/// The step that the members of a line request, if `op` is `call`. If none is returned, they may still request one.
 #[inline(always)]
 pub(crate) fn call_step_from(
     alloc: Global,

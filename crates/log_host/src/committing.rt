@@ -1,4 +1,4 @@
-//! A batch that is kept, and then told.
+//! A batch that is on the disk before the replies to it go out.
 
 ghost use Rattle.std.specs.Prelude.{◌≡◌, List, [], ◌∷◌, ◌++◌, Some, false, true, IfOk, OnErr, OnOk};
 ghost use Rattle.std.specs.Io.KnownBytes.{Appends};
@@ -15,7 +15,7 @@ use line_protocol::Output;
 use log_text::{push_mark, sum_after};
 use std::io::Write;
 
-/// Why a batch wasn't told whole.
+/// Why a batch wasn't committed, or the replies to it weren't all written.
 #[derive(Clone, Copy, Debug, PartialEq, Eq)]
 pub enum CommitFault {
     /// Memory was refused. Nothing was done, and the batch is as it was.
@@ -35,13 +35,13 @@ impl From<HostFault> for CommitFault {
     }
 }
 
-/// Closes the batch of lines that were asked, writes it at the log's end, has it on the disk, and tells what it is answered.
-/// Then the batch is empty, and the answer is the place behind it.
+/// Closes the batch of request lines, appends it to the log, brings it to the disk, and then writes `text`, the replies
+/// to them, to the output. Afterwards the batch is empty. Returns the place after it.
 ///
 /// # Errors
 ///
-/// `Memory` if memory was refused, and then nothing was done; `Host` if a call of the host failed, which the host notes: pass
-/// one that notes none.
+/// `Memory` if memory was refused, and then nothing was done; `Host` if a call of the host failed, which the host
+/// records: pass a host that has recorded no failure.
 #[tactic(auto, using(crate::proofs::Known::added_in_order))]
 pub fn commit<H: LogHost, W: Write>(
     host: &mut H,

@@ -1,4 +1,4 @@
-//! A host that keeps a log and tells what it is told, and one that opens it.
+//! A host that keeps a log and writes the replies, and one that opens a log, too.
 
 ghost use Rattle.std.specs.Prelude.{◌≡◌, ◌≢◌, false, true, Bool, List, ℕ, [], ◌∷◌, IfErr, IfOk, OnErr, OnOk, Option, option_map};
 ghost use Rattle.std.specs.Io.KnownBytes.{Appends};
@@ -13,7 +13,7 @@ use std::io::Write;
 #[derive(Clone, Copy, Debug, PartialEq, Eq)]
 pub struct HostFault;
 
-/// A log, and how whoever asked is told.
+/// A log, and the way to reply to whoever sent a request.
 pub trait LogHost {
     /// The log's bytes, head and all, when it was opened, begun or cut last; none if there was no log.
     ghost begun: { Self → Option (List ℕ) };
@@ -40,7 +40,7 @@ pub trait LogHost {
         ensures unfailed { OnOk result (failed self.new ≡ failed self.old) }
         ensures failed { OnErr result (failed self.new ≡ true) };
 
-    /// Tells the bytes to whoever asked: writes them to the output, and lets them out.
+    /// Sends the bytes to whoever sent the requests: writes them to the output, and flushes it.
     fn tell<W: Write>(&mut self, output: &mut Output<W>, bytes: &[u8]) -> Result<(), HostFault>
         ensures begun { begun self.new ≡ begun self.old }
         ensures ok { OnOk result (Adds (acts self.old) (acts self.new) (told bytes.now ∷ [])) }
@@ -83,7 +83,7 @@ pub trait LogFiles: LogHost {
         ensures unfailed { OnOk result (Self.failed self.new ≡ Self.failed self.old) }
         ensures failed { IfErr result (λ why. why ≢ OpenFault.Memory → why ≢ OpenFault.InUse → Self.failed self.new ≡ true) };
 
-    /// A new log in place of none or of another, which has this head and nothing behind it, on the disk.
+    /// A new log in place of none or of another, which has this head and nothing after it, on the disk.
     ///
     /// # Errors
     ///
@@ -95,7 +95,7 @@ pub trait LogFiles: LogHost {
         ensures unfailed { OnOk result (Self.failed self.new ≡ Self.failed self.old) }
         ensures failed { OnErr result (Self.failed self.new ≡ true) };
 
-    /// Cuts the log to its first bytes, so many with its head, on the disk.
+    /// Cuts the log to its first `length` bytes, its head included, on the disk.
     ///
     /// # Errors
     ///

@@ -8,8 +8,8 @@ pub fn starts_settled()
     ensures { StartsSettled }
 {}
 
-/// However often a process ends and starts again: all that any of them told is the beginning of what the log that is left in
-/// the end answers.
+/// However often a process ends and starts again: all that any of its runs wrote as replies is the beginning of what
+/// the log that is left in the end answers.
 #[tactic(auto, using(crate::proofs::Lives::lives_last))]
 pub fn lives_last()
     ensures { LivesLast }

@@ -1,8 +1,9 @@
 //! A log that is on the disk before what it answers is told.
 //!
-//! A layer above may rely on this: `commit` writes what was asked, brings it to the disk and then tells what it is answered;
-//! and at each moment of it, whether it ends well or not, what was told is the beginning of what the log answers that a crash
-//! would leave. What a host is asked and holds is in `specs/Acts.antt`, what lasts in `specs/Lasting.antt`.
+//! A layer above may rely on this: `commit` writes the request lines, brings them to the disk and then writes the
+//! replies to them. At each moment of it, whether it ends well or not, the replies written so far are the beginning of
+//! what the log left by a crash answers. What a host is asked and holds is in `specs/Acts.antt`, what lasts in
+//! `specs/Lasting.antt`.
 #![tactic(auto)]
 
 mod committing;

@@ -121,7 +121,7 @@ impl MemoryLog {
         self.note(Did::Wrote(copy))
     }
 
-    /// Notes that the bytes were told.
+    /// Notes that the bytes went out as replies.
     fn told(&mut self, bytes: &[u8]) -> Result<(), HostFault>
         ensures begun { self.new.begun ≡ self.old.begun }
         ensures fuse { self.new.fuse ≡ self.old.fuse }

@@ -5,7 +5,7 @@ ghost use Rattle.log_text.specs.Sums.{after};
 
 use log_text::sum_after;
 
-/// Where a log goes on: its name, the sum behind its last batch, and that of all that was told.
+/// Where a log goes on: its name, the sum after its last batch, and the sum of all replies that went out.
 #[derive(Clone, Copy, Debug, PartialEq, Eq)]
 pub struct LogPlace {
     /// The first eight digits of its number.
@@ -15,7 +15,7 @@ pub struct LogPlace {
 }
 
 impl LogPlace {
-    /// The place behind a head that has this number, of at least eight digits. Nothing was told yet.
+    /// The place after a head that has this number, of at least eight digits. No reply went out yet.
     pub fn behind_head(number: &[u8], head: &[u8]) -> LogPlace
         requires { 8 ≤ length number.now }
         ensures name { result.name ≡ take 8 number.now }

@@ -1,7 +1,7 @@
 //! The versions of the program's logic, which journals name by number.
 //!
-//! A layer above may rely on this: a version is one of 1 to [`newest`], which is `newest` of `specs/Versions.antt`. A
-//! method or a kind more makes a new one; which stands since which version is told where the kinds are.
+//! A layer above may rely on this: a version is one of 1 to [`newest`], which is `newest` of `specs/Versions.antt`. One
+//! more method or kind makes a new version; since which version each exists is said where the kinds are.
 #![tactic(auto)]
 
 ghost use Rattle.std.specs.Prelude.{◌≡◌};

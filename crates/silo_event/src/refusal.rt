@@ -1,4 +1,4 @@
-//! Why a line asks for nothing that a silo does.
+//! Why a line's request is invalid.
 
 ghost use Rattle.std.specs.Prelude.{◌≡◌};
 ghost use Rattle.silo_event.specs.Fault.{refusal_fault};
@@ -23,7 +23,7 @@ pub enum Refusal {
 }
 
 impl Refusal {
-    /// The fault that the client is told.
+    /// The fault in the reply to the client.
     pub fn fault(self) -> Fault
         ensures { result ≡ refusal_fault self }
     {

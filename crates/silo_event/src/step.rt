@@ -22,7 +22,7 @@ pub use same::same_but_failed;
 /// step is taken as one whose storage call failed.
 #[derive(Clone, Debug, Drop)]
 pub enum Step {
-    /// A client's line asked for something that can't be asked.
+    /// A client's line made an invalid request, for the reason in `code`.
     Refuse {
         caller: Caller,
         id: u64,
@@ -35,8 +35,8 @@ pub enum Step {
         grain: GrainId,
         message: Message,
     },
-    /// A client overwrites a grain's stored row. The mark stands first, beside the byte that tells
-    /// the steps apart, so that no step takes more than 40 bytes.
+    /// A client overwrites a grain's stored row. The mark stands first, beside the byte that distinguishes the steps,
+    /// so that no step takes more than 40 bytes.
     Poke {
         failed: bool,
         caller: Caller,
@@ -53,7 +53,7 @@ pub enum Step {
     Deliver {
         grain: GrainId,
     },
-    /// An entry that was asked for begins to load.
+    /// A grain's entry that waits to be activated begins to load.
     Activate {
         grain: GrainId,
     },
@@ -66,13 +66,13 @@ pub enum Step {
     Begin {
         grain: GrainId,
     },
-    /// An open turn that asks for the storage runs and is closed.
+    /// An open turn that uses the storage runs and is closed.
     Store {
         grain: GrainId,
         turn: u64,
         failed: bool,
     },
-    /// An open turn that doesn't ask for the storage runs and is closed.
+    /// An open turn that doesn't use the storage runs and is closed.
     End {
         grain: GrainId,
         turn: u64,

@@ -1,4 +1,4 @@
-//! How a request comes to an activation, or to a new one.
+//! How a request reaches an activation, or a new one.
 
 ghost use Rattle.std.specs.Prelude.{◌≡◌, OnOk, OnErr, IfOk};
 ghost use Rattle.silo_state.specs.inside.Arrivals.{arrived, IsFirst};

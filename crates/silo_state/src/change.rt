@@ -143,8 +143,8 @@ fn resting_by(keep: Keep, resting: bool) -> bool
     }
 }
 
-/// Closes its turn of that number: who asked for it, if it is open. The activation is then in this
-/// phase, if one is given, was last used at this moment, and rests or stays as the turn said.
+/// Closes its turn of that number, and returns who sent the turn's request, if it is open. The activation is then in
+/// this phase, if one is given, was last used at this moment, and rests or stays as the turn said.
 #[inline(always)]
 pub fn close(
     activation: &mut Activation,

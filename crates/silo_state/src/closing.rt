@@ -1,4 +1,4 @@
-//! How an open turn is closed, and its sender told.
+//! How an open turn is closed, and its sender gets the reply.
 
 ghost use Rattle.std.specs.Prelude.{◌≡◌, ◌<◌, IsSome, Err, if◌then◌else◌, vec_len, vec_capacity};
 ghost use Rattle.std.specs.Option.{option_map, option_and_then};
@@ -26,8 +26,8 @@ pub struct ClosedTurn<'a> {
     pub idle_after: bool,
 }
 
-/// Closes an open turn now, and tells its sender. The activation rests or stays as the turn said, and goes
-/// if it rests and is idle then. Takes no memory.
+/// Closes an open turn now, and replies to its sender, if that is a client. The activation rests or stays as the turn
+/// said, and is dropped if it rests and is idle then. Takes no memory.
 #[inline(always)]
 pub fn close_turn<L: GrainLogic>(
     activations: &mut Activations<L>,
@@ -52,8 +52,9 @@ pub fn close_turn<L: GrainLogic>(
     tell(replies, sender, outcome);
 }
 
-/// Ends the activation of a grain in its open turn, and tells the turn's sender why: its waiting
-/// requests wait for a new one, and it goes if none waits. Takes no memory.
+/// Ends the activation of a grain in its open turn, and replies with the reason to the turn's sender, if that is a
+/// client. Requests that wait at the grain wait for a new activation, and the grain's entry is dropped if none waits.
+/// Takes no memory.
 fn end_activation<L: GrainLogic>(
     activations: &mut Activations<L>,
     replies: &mut Vec<Reply>,
@@ -88,8 +89,8 @@ fn drop_if<L: GrainLogic>(activations: &mut Activations<L>, grain: &GrainId, idl
     }
 }
 
-/// Closes an open turn by what the storage gave, and tells the turn's sender. If the row has another
-/// version than the grain's state stands on, the activation ends. Takes no memory.
+/// Closes an open turn by what the storage returned, and replies to the turn's sender, if that is a client. If the row
+/// has another version than the grain's state stands on, the activation ends. Takes no memory.
 ///
 /// # Errors
 ///

@@ -55,7 +55,7 @@ fn is_of(kind: &str, state: &StateBytes, message: &Message, input: &OpenedTurn) 
     input.state == *state
 }
 
-/// Whether a plan asks for the storage.
+/// Whether a plan uses the storage.
 pub fn asks_storage(call: StoreCall) -> bool
     ensures { result ≡ asks (storage_call call) }
 {
@@ -122,8 +122,8 @@ pub struct AskedTurn {
     pub call: StoreCall,
 }
 
-/// What the activation's open turn of that number comes to, and how its grain stands. None if the activation isn't ready, or no such
-/// turn is open.
+/// The plan of the activation's open turn of that number, and how its grain stands. None if the activation isn't ready,
+/// or no such turn is open.
 ///
 /// # Errors
 ///

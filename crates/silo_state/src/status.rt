@@ -1,4 +1,4 @@
-//! What a client is told of its tenant.
+//! A tenant's status, as a client gets it.
 
 ghost use Rattle.std.specs.Prelude.{◌≡◌, ◌<◌, ◌^◌, IfOk};
 ghost use Rattle.silo_state.specs.Status.{status_value};

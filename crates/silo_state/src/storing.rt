@@ -14,8 +14,8 @@ use grain_storage::{GrainStorage, StoreFault};
 use request_codec::StateBytes;
 use std::alloc::Global;
 
-/// What the storage gave to a turn: the state that its grain has then, the version that the state
-/// stands on, and that version as the turn's sender is told it.
+/// What the storage returned for a turn: the state that its grain has then, the version that the state stands on, and
+/// that version as it is in the reply to the turn's sender.
 #[derive(Drop)]
 pub struct StorageAnswer {
     pub state: StateBytes,
@@ -23,8 +23,8 @@ pub struct StorageAnswer {
     pub told: StateBytes,
 }
 
-/// Asks the storage for what a turn of a grain asks for, in this state, which stands on this version.
-/// If `failed`, the storage isn't called.
+/// Makes this storage call for a turn of a grain in this state, which stands on this version. If `failed`, the storage
+/// isn't called.
 ///
 /// # Errors
 ///
@@ -78,8 +78,7 @@ fn read<S: GrainStorage, L: GrainLogic>(
     })
 }
 
-/// The state becomes the content of the row. What is told of its version is made before the storage is
-/// called.
+/// The state becomes the content of the row. The version in the reply is made before the storage is called.
 fn write<S: GrainStorage>(
     alloc: Global,
     storage: &mut S,
@@ -103,8 +102,8 @@ fn write<S: GrainStorage>(
     }
 }
 
-/// The row loses its content, and the grain has its kind's empty state. What is told of the row's
-/// version is made before the storage is called.
+/// The row loses its content, and the grain has its kind's empty state. The row's version in the reply is made before
+/// the storage is called.
 fn clear<S: GrainStorage, L: GrainLogic>(
     alloc: Global,
     storage: &mut S,

@@ -13,7 +13,7 @@ use std::alloc::AllocError;
 use std::collections::VecDeque;
 use turn_mailbox::Request;
 
-/// A client is told the answer, and a grain gets no answer to what it asked.
+/// A client gets the answer as a reply, and a grain gets no answer to what it requested.
 pub fn tell(replies: &mut Vec<Reply>, recipient: Party, outcome: Result<StateBytes, Fault>)
     requires { vec_len replies.old < vec_capacity replies.old }
     ensures told { replies.new.items ≡ replies.old.items ++ reply_to recipient outcome }
@@ -29,7 +29,7 @@ pub fn tell(replies: &mut Vec<Reply>, recipient: Party, outcome: Result<StateByt
     }
 }
 
-/// Each sender of these requests is told that the storage failed, in order.
+/// Each of these requests that is a client's gets the reply that the storage failed, in order.
 pub fn refuse_all(replies: &mut Vec<Reply>, mut waiting: VecDeque<Request>)
     requires { length waiting.items + vec_len replies.old ≤ vec_capacity replies.old }
     ensures { replies.new.items ≡ replies.old.items ++ flat_map refused waiting.items }
@@ -51,7 +51,7 @@ pub fn copied(
     }
 }
 
-/// What a turn's sender is told of the plan's outcome.
+/// The outcome in the reply to a turn's sender, by the plan's outcome.
 pub fn told(outcome: Result<StateBytes, MethodFault>) -> Result<StateBytes, Fault>
     ensures { result ≡ outcome_of outcome }
 {
@@ -61,8 +61,7 @@ pub fn told(outcome: Result<StateBytes, MethodFault>) -> Result<StateBytes, Faul
     }
 }
 
-/// The fault that the sender of a request is told whose method has no value: one of the codes 60 to
-/// 63.
+/// The fault in the reply to a request whose method has no value: one of the codes 60 to 63.
 fn fault_of_method(why: MethodFault) -> Fault
     ensures { result ≡ method_fault why }
 {

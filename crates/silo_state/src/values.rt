@@ -1,4 +1,4 @@
-//! Values that clients are told.
+//! Values in replies to clients.
 
 ghost use Rattle.std.specs.Prelude.{◌≡◌, ◌≤◌, IfOk};
 ghost use Rattle.request_codec.specs.Answers.{spelled_length};

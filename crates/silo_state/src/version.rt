@@ -1,4 +1,4 @@
-//! Versions of rows, and how clients are told them.
+//! Versions of rows, and how replies to clients give them.
 
 ghost use Rattle.std.specs.Prelude.{◌≡◌, IfOk, decimal};
 ghost use Rattle.request_codec.specs.Tree.{text};
@@ -31,7 +31,7 @@ pub fn cleared_version(version: Option<u64>) -> Option<u64>
     }
 }
 
-/// What a client is told of a version: its decimal text, or null.
+/// A version in a reply to a client: its decimal text, or null.
 ///
 /// # Errors
 ///

@@ -1,8 +1,8 @@
-//! What is told of each tenant that is audited.
+//! A hook that is called for each tenant that is audited.
 
 use grain_id::Tenant;
 
-/// Is told of each tenant, before the tenant's machine starts.
+/// Is called for each tenant, before the tenant's machine starts.
 pub trait AuditGate {
     /// Called by the thread that audits the tenant.
     fn entered(&self, tenant: &Tenant);

@@ -106,7 +106,7 @@ fn of_tenant<'p, T>(parts: &'p ByTenant<T>, tenant: &Tenant) -> &'p [T]
     }
 }
 
-/// Adds a thing behind those of its owner.
+/// Adds a thing after those of its owner.
 fn add<T: Drop>(
     alloc: Global,
     parts: &mut ByTenant<T>,
@@ -125,7 +125,7 @@ fn add<T: Drop>(
     Ok(())
 }
 
-/// Adds a step behind those of its owner, or behind nobody's.
+/// Adds a step after those of its owner, or after nobody's.
 fn add_step<'j>(
     alloc: Global,
     own: &mut ByTenant<PlacedStep<'j>>,

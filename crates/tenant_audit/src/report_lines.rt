@@ -1,4 +1,4 @@
-//! How a report is told.
+//! A report as text.
 
 ghost use Rattle.std.specs.Prelude.{◌≡◌, ◌++◌, IfOk, OnOk, flat_map, string_bytes};
 ghost use Rattle.std.specs.List.{list_any};
@@ -12,7 +12,7 @@ use crate::difference::Difference;
 use crate::report::{Report, TenantReport};
 use std::alloc::{AllocError, Global};
 
-/// The line that tells what is reported of a tenant.
+/// The line that says what is reported of a tenant.
 fn line_of(alloc: Global, report: &TenantReport) -> Result<String, AllocError>
     ensures { IfOk result (λ line. string_bytes line ≡ report_line (tenant_report_of report.now)) }
 {
@@ -54,7 +54,7 @@ fn some_differs(reports: &[TenantReport]) -> bool
     reports.iter().any(|report| report.difference.is_some())
 }
 
-/// The lines that tell what is reported of each tenant.
+/// The lines that say what is reported of each tenant.
 ///
 /// # Errors
 ///

@@ -187,16 +187,16 @@ fn run_parts<'s, E, R: Threads, G: AuditGate + Sync>(
     joined_parts(alloc, results, all_started)
 }
 
-/// Audits a journal, under the logic that it names, by several threads: as many as there are workers, and no
-/// more than there are tenants to report. The tenant at each place of the report, counted from 0, goes to the
-/// thread of the place's rest by the number of threads. The gate is told of each tenant before its
-/// machine starts. The maps of the machines hash from the seed. The report is the same for every number of
-/// workers, 1 to 64, and for every seed.
+/// Audits a journal, under the logic that it names, by several threads: as many as there are workers, and no more than
+/// there are tenants to report. The tenant at each place of the report, counted from 0, goes to the thread whose number
+/// is the place modulo the number of threads. The gate is called for each tenant before the tenant's machine starts.
+/// The maps of the machines hash from the seed. The report is the same for every number of workers, 1 to 64, and for
+/// every seed.
 ///
 /// # Errors
 ///
-/// `Memory` if memory was refused, also in a thread. `NoWorker` if a thread couldn't be started, and
-/// none of those that were met want of memory: they are waited for.
+/// `Memory` if memory was refused, also in a thread. `NoWorker` if a thread couldn't be started and none of the others
+/// ran out of memory: the others are waited for.
 pub fn audit_seeded<R: Threads + Wait + Sync, G: AuditGate + Sync>(
     rt: &R,
     alloc: Global,
@@ -244,9 +244,9 @@ pub fn audit_with<R: Threads + Wait + Sync, G: AuditGate + Sync>(
     audit_seeded(rt, alloc, HashSeed::fixed(), journal, workers, gate)
 }
 
-/// Audits a journal by so many workers, 1 to 64: takes every tenant's steps again, each tenant's by a
-/// machine of its own, under the logic that the journal names, and compares what was recorded with what the machine shows. This
-/// is [`audit_with`] and a gate that does nothing.
+/// Audits a journal by `workers` threads, 1 to 64, or fewer if it has fewer tenants: takes every tenant's steps again,
+/// each tenant's by a machine of its own, under the logic that the journal names, and compares what was recorded with
+/// what the machine shows. This is [`audit_with`] and a gate that does nothing.
 ///
 /// # Errors
 ///

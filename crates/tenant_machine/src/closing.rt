@@ -1,4 +1,4 @@
-//! How an open turn is closed, and its sender told.
+//! How an open turn is closed, and its sender gets the reply.
 
 ghost use Rattle.std.specs.Prelude.{◌≡◌, ◌≤◌, ◌+◌, ◌<◌, ◌++◌, Some, IsSome, Err, flat_map, length, if◌then◌else◌, vec_len, vec_capacity};
 ghost use Rattle.std.specs.Option.{option_map, option_and_then};
@@ -31,8 +31,8 @@ pub struct ClosedTurn<'a> {
     pub idle_after: bool,
 }
 
-/// Closes an open turn, which said this of its activation, and tells its sender. The activation goes if it
-/// rests and is idle then. Takes no memory.
+/// Closes an open turn, which said `keep` of its activation, and replies to its sender, if that is a client. The
+/// activation is dropped if it rests and is idle then. Takes no memory.
 pub fn close_turn<L: GrainLogic>(
     entries: &mut Entries<L>,
     replies: &mut Vec<Reply>,
@@ -54,8 +54,9 @@ pub fn close_turn<L: GrainLogic>(
     tell(replies, sender, outcome);
 }
 
-/// Ends the activation of a grain in its open turn, and tells the turn's sender why: its waiting
-/// requests wait for a new one, and it goes if none waits. Takes no memory.
+/// Ends the activation of a grain in its open turn, and replies with the reason to the turn's sender, if that is a
+/// client. Requests that wait at the grain wait for a new activation, and the grain's entry is dropped if none waits.
+/// Takes no memory.
 fn end_activation<L: GrainLogic>(
     entries: &mut Entries<L>,
     replies: &mut Vec<Reply>,
@@ -85,8 +86,8 @@ fn drop_if<L: GrainLogic>(entries: &mut Entries<L>, grain: &GrainId, idle_after:
     }
 }
 
-/// Closes an open turn by what the storage gave, and tells the turn's sender. If the row has another
-/// version than the grain's state stands on, the activation ends. Takes no memory.
+/// Closes an open turn by what the storage returned, and replies to the turn's sender, if that is a client. If the row
+/// has another version than the grain's state stands on, the activation ends. Takes no memory.
 ///
 /// # Errors
 ///
@@ -163,7 +164,7 @@ fn close_refused<L: GrainLogic>(
     }
 }
 
-/// Takes the grain's activation out, and tells its waiting requests that the storage failed.
+/// Takes the grain's activation out. Each request of a client that waits there gets the reply that the storage failed.
 pub fn unload<L: GrainLogic>(entries: &mut Entries<L>, replies: &mut Vec<Reply>, grain: &GrainId)
     requires { (e : Entry) → map.get entries.old grain.now ≡ Some e → length e.queue + vec_len replies.old ≤ vec_capacity replies.old }
     ensures gone { entries.new ≡ map.remove entries.old grain.now }

@@ -143,8 +143,8 @@ impl<L: GrainLogic> Entries<L> {
         change::open(activation)
     }
 
-    /// Closes the grain's turn of that number: who asked for it. The activation is then in this phase, if
-    /// one is given, was last used at this moment, and is as the turn said of it; it goes if it rests and is
+    /// Closes the grain's turn of that number, and returns who sent its request. The activation is then in this phase,
+    /// if one is given, was last used at this moment, and is as the turn said of it; it is dropped if it rests and is
     /// idle. Takes no memory.
     pub fn close(
         &mut self,

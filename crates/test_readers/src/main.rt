@@ -93,7 +93,7 @@ fn print_lines<R: BufRead, W: Write>(
     writer.flush()
 }
 
-/// The way that the first word behind the program's name names.
+/// The way that the first word after the program's name names.
 fn asked_way<H: Env + AllocGlobal>(rt: &H) -> io::Result<Option<Way>> {
     match env::args(rt)?.nth(1) {
         Some(word) => Ok(way_of(word.as_str())),
@@ -101,7 +101,7 @@ fn asked_way<H: Env + AllocGlobal>(rt: &H) -> io::Result<Option<Way>> {
     }
 }
 
-/// Does what the words ask for: whether they ask for anything.
+/// Prints what the lines of the input say, read in the way that the words name. Returns whether they name one.
 fn run(rt: &HostRuntime) -> io::Result<bool> {
     let alloc = rt.alloc();
     let Some(way) = asked_way(rt)? else {

@@ -13,11 +13,11 @@ use silo_state::SiloState;
 use std::alloc::{AllocError, Global};
 
 impl<S: GrainStorage, L: GrainLogic> Silo<S, L> {
-    /// Takes a client's call, and begins and ends its turn: three steps in one, which are noted as if each were taken alone. The turn
-    /// runs in this arena, as that of `apply_in`.
+    /// Takes a client's call, and begins and ends its turn: three steps in one, which are noted as if each were taken
+    /// alone. The turn runs in this arena, as that of `apply_in`.
     ///
-    /// It does so if that is short: the grain is ready and has nothing to do, nothing is refused, the turn asks for nothing of the storage,
-    /// and there is memory. Otherwise the step comes back and nothing changed: take it by `apply_in`.
+    /// It does so only on the fast path: the grain is ready and has nothing to do, nothing is refused, the turn doesn't
+    /// use the storage, and there is memory. Otherwise the step is returned and nothing changed: take it by `apply_in`.
     pub fn serve_at_once(&mut self, alloc: Global, bump: &Bump, step: Step) -> Option<Step>
         ensures { ServesOrNot L.logic self.old step result self.new }
     {

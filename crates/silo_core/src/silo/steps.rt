@@ -23,7 +23,7 @@ use silo_event::{Answer, Moment, Refusal, Step, StepFault};
 use std::alloc::{AllocError, Global};
 
 impl<S: GrainStorage, L: GrainLogic> Silo<S, L> {
-    /// A client's line asked for something that can't be asked.
+    /// A client's line made an invalid request, for the reason in `code`.
     ///
     /// # Errors
     ///
@@ -165,8 +165,8 @@ impl<S: GrainStorage, L: GrainLogic> Silo<S, L> {
         Ok(Some(turn))
     }
 
-    /// The open turn that asks for the storage is closed, as its plan and the storage's answer say. If
-    /// `failed`, the storage isn't called, and the step is taken as one whose storage call failed.
+    /// The open turn that uses the storage is closed, as its plan and the storage's answer say. If `failed`, the
+    /// storage isn't called, and the step is taken as one whose storage call failed.
     ///
     /// # Errors
     ///
@@ -198,7 +198,7 @@ impl<S: GrainStorage, L: GrainLogic> Silo<S, L> {
         Ok(answer)
     }
 
-    /// The open turn that asks for nothing of the storage is closed, as its plan says.
+    /// The open turn that doesn't use the storage is closed, as its plan says.
     ///
     /// # Errors
     ///

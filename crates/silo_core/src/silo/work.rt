@@ -1,5 +1,4 @@
-//! What there is to do at a grain that no client asks for. Each of these is a look-up, and takes no
-//! memory.
+//! What there is to do at a grain without a client requesting it. Each of these is a look-up, and takes no memory.
 
 ghost use Rattle.std.specs.Prelude.{◌≡◌, option_map};
 ghost use Rattle.std.specs.FinMap as map;

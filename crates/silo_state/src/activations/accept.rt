@@ -1,4 +1,4 @@
-//! How requests come to an activation.
+//! How requests reach an activation.
 
 ghost use Rattle.std.specs.Prelude.{◌≡◌, None, true, OnOk, OnErr, length};
 ghost use Rattle.std.specs.Option.{option_map};

@@ -66,9 +66,9 @@ impl<L: GrainLogic> Activations<L> {
         self.collector.note_expected(moment);
     }
 
-    /// Closes the grain's turn of that number: who asked for it. Its activation is then in this phase,
-    /// if one is given, was last used at this moment, and rests or stays as the turn said. If it rests
-    /// and is idle then, it goes. Takes no memory.
+    /// Closes the grain's turn of that number, and returns who sent its request. Its activation is then in this phase,
+    /// if one is given, was last used at this moment, and rests or stays as the turn said. If it rests and is idle
+    /// then, it is dropped. Takes no memory.
     pub fn close(
         &mut self,
         grain: &GrainId,

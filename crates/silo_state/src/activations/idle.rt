@@ -1,4 +1,4 @@
-//! A grain that is idle: what a message comes to there, and how it gets another state.
+//! A grain that is idle: the plan of a message's turn there, and how the grain gets another state.
 
 ghost use Rattle.std.specs.Prelude.{◌≡◌, IfOk, IfSome, Some};
 ghost use Rattle.std.specs.FinMap as map;
@@ -16,8 +16,8 @@ use silo_event::Moment;
 use std::alloc::{AllocError, Global};
 
 impl<L: GrainLogic> Activations<L> {
-    /// What a message comes to at the grain, if it is idle and doesn't rest. The turn runs in this arena. What looks for the grain
-    /// next finds it sooner.
+    /// The plan of a turn with this message at the grain, if the grain is idle and doesn't rest. The turn runs in this
+    /// arena. The next look-up of the grain finds it sooner.
     ///
     /// # Errors
     ///
@@ -70,7 +70,7 @@ fn idle_state(activation: &Activation) -> Option<&StateBytes>
     Some(state)
 }
 
-/// What a message comes to at the grain's activation, if it is idle and doesn't rest.
+/// The plan of a turn with this message at the grain's activation, if that is idle and doesn't rest.
 fn plan_idle<L: GrainLogic>(
     alloc: Global,
     bump: &Bump,

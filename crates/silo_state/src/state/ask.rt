@@ -15,7 +15,7 @@ use silo_event::{Answer, Fault, Party, Refusal, Reply, StepFault};
 use std::alloc::{AllocError, Global};
 
 impl<S: GrainStorage, L: GrainLogic> SiloState<S, L> {
-    /// A client is told that its line asks for nothing that can be asked.
+    /// Replies to a client that its line made an invalid request, with the fault of `code`.
     ///
     /// # Errors
     ///
@@ -28,8 +28,8 @@ impl<S: GrainStorage, L: GrainLogic> SiloState<S, L> {
         Ok(Answer::Done)
     }
 
-    /// A client is told how many activations its tenant has, the clock, and how many of its requests
-    /// were accepted.
+    /// Replies to a client with the number of its tenant's activations, the clock, and the number of the tenant's
+    /// requests that were accepted.
     ///
     /// # Errors
     ///
@@ -50,7 +50,7 @@ impl<S: GrainStorage, L: GrainLogic> SiloState<S, L> {
         Ok(Answer::Done)
     }
 
-    /// A client overwrites a grain's row, and is told its version. No activation is touched.
+    /// A client overwrites a grain's row, and gets the row's version as the reply. No activation is touched.
     ///
     /// # Errors
     ///
@@ -85,8 +85,8 @@ impl<S: GrainStorage, L: GrainLogic> SiloState<S, L> {
     }
 }
 
-/// Overwrites a row: the answer of a step that does, and what its client is told. The room for what is
-/// told of the row's version is taken before the storage is called, and the storage is called once.
+/// Overwrites a row. Returns the answer of a step that does so, and the outcome in the reply to its client. The room
+/// for the row's version in the reply is taken before the storage is called, and the storage is called once.
 fn overwrite<S: GrainStorage>(
     alloc: Global,
     storage: &mut S,

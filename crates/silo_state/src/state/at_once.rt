@@ -19,9 +19,9 @@ use silo_event::{Party, Reply};
 use std::alloc::{AllocError, Global};
 
 impl<S: GrainStorage, L: GrainLogic> SiloState<S, L> {
-    /// A client's call is accepted, and its turn begins and ends, if the grain has nothing to do and its turn asks for nothing of
-    /// the storage: the turn's number. It runs in this arena. If there is none, nothing changed, and the call is one to be
-    /// taken step by step.
+    /// Accepts a client's call, and begins and ends its turn, which runs in this arena. It does so only if the grain
+    /// has nothing to do and the turn doesn't use the storage. Returns the turn's number. If no number is returned,
+    /// nothing changed, and the call has to be taken step by step.
     ///
     /// # Errors
     ///
@@ -68,7 +68,7 @@ impl<S: GrainStorage, L: GrainLogic> SiloState<S, L> {
     }
 }
 
-/// Whether the plan asks for nothing of the storage, and says nothing of the activation.
+/// Whether the plan neither uses the storage nor says anything of the activation.
 fn is_plain(plan: &OwnedPlan) -> bool
     ensures { result ≡ true → IsPlain plan.now }
 {

@@ -27,8 +27,8 @@ impl<S: GrainStorage, L: GrainLogic> SiloState<S, L> {
         self.activations.activate(grain)
     }
 
-    /// A loading grain gets its row's content, or its kind's empty state. If the storage failed, each
-    /// request that waits is told so, in order, and the grain's entry goes.
+    /// A loading grain gets its row's content, or its kind's empty state. If the storage failed, each request of a
+    /// client that waits gets a reply that says so, in order, and the grain's entry is dropped.
     ///
     /// # Errors
     ///
@@ -70,7 +70,7 @@ impl<S: GrainStorage, L: GrainLogic> SiloState<S, L> {
     }
 }
 
-/// Takes the grain's activation out, and tells its waiting requests that the storage failed.
+/// Takes the grain's activation out. Each request of a client that waits there gets the reply that the storage failed.
 fn unload<L: GrainLogic>(
     activations: &mut Activations<L>,
     replies: &mut Vec<Reply>,

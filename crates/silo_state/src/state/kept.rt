@@ -1,4 +1,4 @@
-//! What is kept of all where the silo is left, and what is let go.
+//! What a silo keeps when it is opened again where it is, and what it drops.
 
 ghost use Rattle.std.specs.Prelude.{◌≡◌, ◌↔◌, IfOk, IfSome, IsSome, IsTrue};
 ghost use Rattle.silo_model.specs.Collected.{AllIdle};

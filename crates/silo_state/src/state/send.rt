@@ -12,8 +12,8 @@ use silo_event::{Answer, Party, StepFault};
 use std::alloc::Global;
 
 impl<S: GrainStorage, L: GrainLogic> SiloState<S, L> {
-    /// The first call that the grain sent is asked of its target, in the grain's name. If it is
-    /// refused, the grain is told.
+    /// The first call that the grain sent goes to its target, in the grain's name. If it is refused, the grain gets a
+    /// reply that says why.
     ///
     /// # Errors
     ///

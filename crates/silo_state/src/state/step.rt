@@ -69,7 +69,7 @@ impl<S: GrainStorage, L: GrainLogic> SiloState<S, L> {
         }
     }
 
-    /// What the open turn of that number comes to, and how its grain stands.
+    /// The plan of the open turn of that number, and how its grain stands.
     #[inline(always)]
     fn plan_open(
         &self,
@@ -103,7 +103,7 @@ impl<S: GrainStorage, L: GrainLogic> SiloState<S, L> {
         finding::ask_open(alloc, bump, &self.logic, grain, activation, turn)
     }
 
-    /// An open turn that asks for nothing of the storage runs and is closed.
+    /// An open turn that doesn't use the storage runs and is closed.
     #[inline(never)]
     fn run_end(
         &mut self,
@@ -124,7 +124,7 @@ impl<S: GrainStorage, L: GrainLogic> SiloState<S, L> {
         self.end_planned(alloc, grain, turn, version, idle_after, planned)
     }
 
-    /// An open turn that asks for the storage runs and is closed.
+    /// An open turn that uses the storage runs and is closed.
     #[inline(never)]
     fn run_store(
         &mut self,

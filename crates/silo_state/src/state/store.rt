@@ -1,4 +1,4 @@
-//! How a turn that asks for the storage is closed.
+//! How a turn that uses the storage is closed.
 
 ghost use Rattle.std.specs.Prelude.{◌≡◌, ◌↔◌, Err};
 ghost use Rattle.std.specs.FinMap as map;
@@ -20,9 +20,9 @@ use silo_event::{Answer, StepFault};
 use std::alloc::Global;
 
 impl<S: GrainStorage, L: GrainLogic> SiloState<S, L> {
-    /// An open turn that asks for the storage is closed by what the storage answers: a read, a write
-    /// of the grain's own state, or a clearing. A write and a clearing expect the version that the
-    /// state stands on. If the row has another one, the activation ends.
+    /// An open turn that uses the storage is closed by what the storage answers: a read, a write of the grain's own
+    /// state, or a clearing. A write and a clearing expect the version that the state stands on. If the row has another
+    /// one, the activation ends.
     ///
     /// # Errors
     ///

@@ -45,9 +45,9 @@ impl<S: GrainStorage, L: GrainLogic> SiloState<S, L> {
         finding::find(grain, activation, turn, input)
     }
 
-    /// An open turn that doesn't ask for the storage is closed by its plan: the plan's state stands,
-    /// its sends go out, its outcome is the reply, and the activation rests or stays as it says. One that
-    /// rests goes once it is idle.
+    /// An open turn that doesn't use the storage is closed by its plan: the grain gets the plan's state, the plan's
+    /// sends go out, its outcome is the reply, and the activation rests or stays as it says. An activation that rests
+    /// is dropped once it is idle.
     ///
     /// # Errors
     ///
@@ -154,7 +154,7 @@ impl<S: GrainStorage, L: GrainLogic> SiloState<S, L> {
         Ok(Answer::Done)
     }
 
-    /// A turn that ran out of memory is closed, and its sender is told so.
+    /// A turn that ran out of memory is closed, and its sender gets a reply that says so, if it is a client.
     ///
     /// # Errors
     ///

@@ -1,5 +1,5 @@
-//! What there is to do that no client asks for: at a grain, which is a look-up, and at any, which is a
-//! walk. None of these takes memory.
+//! What there is to do without a client requesting it: at a grain, which is a look-up, and at any, which is a walk.
+//! None of these takes memory.
 
 ghost use Rattle.std.specs.Prelude.{◌≡◌, ◌↔◌, true, None, Some, IfNone, IfSome, IsTrue, option_map};
 ghost use Rattle.std.specs.FinMap as map;

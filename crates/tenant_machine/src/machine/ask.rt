@@ -15,7 +15,7 @@ use silo_state::status::status_value;
 use std::alloc::{AllocError, Global};
 
 impl<L: GrainLogic> TenantMachine<L> {
-    /// A client is told that its line asks for nothing that can be asked.
+    /// Replies to a client that its line made an invalid request, with the fault of `code`.
     ///
     /// # Errors
     ///
@@ -33,8 +33,8 @@ impl<L: GrainLogic> TenantMachine<L> {
         Ok(true)
     }
 
-    /// A client is told how many activations its tenant has, the clock, and how many of its requests
-    /// were accepted.
+    /// Replies to a client with the number of its tenant's activations, the clock, and the number of the tenant's
+    /// requests that were accepted.
     ///
     /// # Errors
     ///
@@ -53,7 +53,7 @@ impl<L: GrainLogic> TenantMachine<L> {
         Ok(true)
     }
 
-    /// What a client is told that asks how much its tenant has.
+    /// The outcome in the reply to a client that asks how much its tenant has.
     fn own_status(&self, alloc: Global) -> Result<Result<StateBytes, Fault>, AllocError>
         ensures { IfOk result (λ outcome. outcome ≡ status_outcome self.now self.now.account) }
     {
@@ -66,7 +66,7 @@ impl<L: GrainLogic> TenantMachine<L> {
         }
     }
 
-    /// A client overwrites a grain's row, and is told its version. No activation is touched.
+    /// A client overwrites a grain's row, and gets the row's version as the reply. No activation is touched.
     ///
     /// # Errors
     ///
@@ -101,8 +101,8 @@ impl<L: GrainLogic> TenantMachine<L> {
     }
 }
 
-/// Overwrites a row: what its client is told. The room for what is told of the row's version is taken
-/// before the storage is called.
+/// Overwrites a row, and returns the outcome in the reply to its client. The room for the row's version in the reply is
+/// taken before the storage is called.
 fn overwrite(
     alloc: Global,
     storage: &mut MemoryStorage,

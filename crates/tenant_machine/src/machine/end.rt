@@ -1,4 +1,4 @@
-//! How a turn that asks for nothing of the storage is closed.
+//! How a turn that doesn't use the storage is closed.
 
 ghost use Rattle.std.specs.Prelude.{◌≡◌, OnOk, OnErr};
 ghost use Rattle.std.specs.FinMap as map;
@@ -19,8 +19,8 @@ use silo_state::telling::told;
 use std::alloc::{AllocError, Global};
 
 impl<L: GrainLogic> TenantMachine<L> {
-    /// An open turn that asks for nothing of the storage runs and is closed by its plan: the plan's
-    /// state stands, its sends go out, what it says of the activation holds, and its outcome is the reply.
+    /// An open turn that doesn't use the storage runs and is closed by its plan: the grain gets the plan's state, the
+    /// plan's sends go out, what it says of the activation holds, and its outcome is the reply.
     ///
     /// # Errors
     ///

@@ -25,8 +25,9 @@ impl<L: GrainLogic> TenantMachine<L> {
         }
     }
 
-    /// A loading grain gets its row's content, or its kind's empty state, and neither rests nor stays. If
-    /// the storage failed, each request that waits is told so, in order, and the grain's entry goes.
+    /// A loading grain gets its row's content, or its kind's empty state, and neither rests nor stays. If the storage
+    /// failed, each request of a client that waits gets a reply that says so, in order, and the grain's entry is
+    /// dropped.
     ///
     /// # Errors
     ///

@@ -1,4 +1,4 @@
-//! How a turn that asks for the storage is closed.
+//! How a turn that uses the storage is closed.
 
 ghost use Rattle.std.specs.FinMap as map;
 ghost use Rattle.silo_event.specs.declared.step.Step.TheVariants as step;
@@ -16,9 +16,9 @@ use silo_state::storing::ask;
 use std::alloc::{AllocError, Global};
 
 impl<L: GrainLogic> TenantMachine<L> {
-    /// An open turn that asks for the storage runs and is closed by what the storage answers: a read,
-    /// a write of the grain's own state, or a clearing. A write and a clearing expect the version that
-    /// the state stands on. If the row has another one, the activation ends.
+    /// An open turn that uses the storage runs and is closed by what the storage answers: a read, a write of the
+    /// grain's own state, or a clearing. A write and a clearing expect the version that the state stands on. If the row
+    /// has another one, the activation ends.
     ///
     /// # Errors
     ///

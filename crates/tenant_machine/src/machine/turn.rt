@@ -17,7 +17,7 @@ use silo_state::finding::{AskedTurn, GrainAtClose};
 use std::alloc::{AllocError, Global};
 
 impl<L: GrainLogic> TenantMachine<L> {
-    /// What the open turn of that number comes to, run in an arena of its own, and how its grain stands.
+    /// The plan of the open turn of that number, run in an arena of its own, and how its grain stands.
     pub(super) fn plan_open(
         &self,
         alloc: Global,
@@ -49,7 +49,7 @@ impl<L: GrainLogic> TenantMachine<L> {
         finding::ask_open(alloc, &bump, &self.logic, grain, activation, turn)
     }
 
-    /// A turn that ran out of memory is closed, and its sender is told so.
+    /// A turn that ran out of memory is closed, and its sender gets a reply that says so, if it is a client.
     ///
     /// # Errors
     ///
