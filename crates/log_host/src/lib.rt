@@ -1,4 +1,4 @@
-//! A log that is on the disk before what it answers is told.
+//! A log that is on the disk before its replies go out.
 //!
 //! A layer above may rely on this: `commit` writes the request lines, brings them to the disk and then writes the
 //! replies to them. At each moment of it, whether it ends well or not, the replies written so far are the beginning of

@@ -1,5 +1,5 @@
 //! A silo of virtual actors, shared by tenants: grains that are activated, loaded, given one turn at a
-//! time, and let go when they are idle.
+//! time, and dropped from memory when they are idle.
 //!
 //! A layer above may rely on this: what a silo shows is where its journal leads from its opening,
 //! each step is the machine's on the part of each tenant that it concerns and leaves every other

@@ -1,4 +1,4 @@
-//! How an open turn is closed, and its sender gets the reply.
+//! How an open turn is closed, and its sender gets the reply if it is a client.
 
 ghost use Rattle.std.specs.Prelude.{◌≡◌, ◌≤◌, ◌+◌, ◌<◌, ◌++◌, Some, IsSome, Err, flat_map, length, if◌then◌else◌, vec_len, vec_capacity};
 ghost use Rattle.std.specs.Option.{option_map, option_and_then};
