@@ -1,2 +1,2 @@
--- What only the contracts of this crate's own parts cite. No promise stands on it.
+-- For contracts of parts and for proofs. No promise of the silo, of journals or of the program stands on it.
 pub mod Room
