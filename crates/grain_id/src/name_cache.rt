@@ -19,8 +19,9 @@ const CALLERS: usize = 8_192;
 const FEW: usize = 512;
 
 /// Names that were read lately, each at the place of its text's hash. A name takes the place of the
-/// one before it, and the first stands at all places till then, as does the first after the places became more. It takes 8 bytes a place: 4 kB for grains and as
-/// much for callers, till 512 came; 128 kB for more grains, and 64 kB for more callers.
+/// one before it, and the first stands at all places till then, as does the first after the places became more. It takes
+/// 8 bytes a place: 4 kB for grains and as much for callers, till 512 came; 128 kB for more grains, and 64 kB for more
+/// callers.
 #[derive(Drop)]
 pub struct NameCache {
     grains: Vec<GrainId>,

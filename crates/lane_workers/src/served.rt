@@ -20,8 +20,8 @@ pub enum NextStep {
 
 /// A silo that workers serve: the calls that they make under the lock.
 ///
-/// A fault is meant to leave the silo as it was, which no clause of `take_at_once` says. What is to do at a grain, whom it sends to, and which lanes have new replies, are
-/// hints: no clause speaks of them.
+/// A fault is meant to leave the silo as it was, which no clause of `take_at_once` says. What is to do at a grain, whom
+/// it sends to, and which lanes have new replies, are hints: no clause speaks of them.
 pub trait ServedSilo {
     ghost use Rattle.std.specs.Prelude.{◌≡◌, false, true, None, Ok, Some, IfErr, IfOk, OnErr};
     ghost use Rattle.silo_event.specs.declared.step.Answer.TheVariants as answer;
