@@ -11,7 +11,8 @@ abbrev pub MayDrop : Bool → History → History → Type 0
 MayDrop true old new = new ≡ old
 MayDrop false old new = (new ≡ old) ⊎ Reopens old new
 
--- What is left of a whole history: it has the last of its steps and the last of its replies, and all else is the same.
+-- What is left of a whole history: it has the last of its steps and of its replies, and otherwise the same whole and as many failures
+-- now. Its setup is what it last opened with.
 pub record IsLeftOf (all left : History) : Type 0 where
   pub before : List Step
   pub told : List Reply

@@ -187,14 +187,14 @@ impl<S: GrainStorage, L: GrainLogic> AnsweringSilo<S, L> {
         &self.silo
     }
 
-    /// All replies, in the order in which they were made.
+    /// All replies since it opened, or last opened again, in the order in which they were made.
     pub fn replies(&self) -> &[Reply]
         ensures { result.now ≡ self.now.history.whole.replies }
     {
         self.silo.replies()
     }
 
-    /// The steps that were done, in order.
+    /// The steps that were done since it opened, or last opened again, in order.
     pub fn journal(&self) -> &[Step]
         ensures steps { result.now ≡ self.now.history.journal }
 

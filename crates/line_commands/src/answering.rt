@@ -170,7 +170,7 @@ fn answer_and_keep<L: GrainLogic + Drop, F: WholeFiles, R: Read, W: Write>(
 
 /// Answers each line of the input before the next is read, followed by at most `sends` deliveries. If a path is given,
 /// the journal is written there: that of no step before anything is read, and the whole one at the end, however the
-/// input ends. If none is, the silo drops its history from time to time: its memory doesn't grow with the lines.
+/// input ends. If none is, the silo drops its history from time to time.
 ///
 /// # Errors
 ///

@@ -71,7 +71,8 @@ pub enum OpenFault {
 
 /// A log that can be opened, begun and cut. None of this is to be asked of a log to which anything was done since.
 pub trait LogFiles: LogHost {
-    /// Opens the log at the path for this process alone, and gives its bytes, head and all; none if there's no log.
+    /// Opens the log at the path for this process alone, and gives its bytes, head and all, which are on the disk then; none
+    /// if there's no log. That they are on the disk is for the host to do: what was found counts as synced.
     ///
     /// # Errors
     ///

@@ -194,7 +194,7 @@ impl<S: GrainStorage, L: GrainLogic> Silo<S, L> {
         self.state.storage()
     }
 
-    /// All replies, in the order in which they were made.
+    /// All replies since it opened, or last opened again, in the order in which they were made.
     pub fn replies(&self) -> &[Reply]
         ensures { result.now ≡ self.now.whole.replies }
     {
@@ -235,7 +235,7 @@ impl<S: GrainStorage, L: GrainLogic> Silo<S, L> {
         rows::stored_of(alloc, all, tenant)
     }
 
-    /// The steps that were done, in order.
+    /// The steps that were done since it opened, or last opened again, in order.
     pub fn journal(&self) -> &[Step]
         ensures steps { result.now ≡ self.now.journal }
 
