@@ -10,13 +10,15 @@ from typing import Any, Callable, List
 from unittest import mock
 
 from silo.gateway import desk as desks
-from silo.gateway.asked import Block, Reader, asked_by
+from silo.gateway.asked import Block, Reader, asked_by, step
+from silo.gateway.clock import OwnAsker
 from silo.gateway.desk import Desk
 from silo.gateway.figures import Histogram, Page
 from silo.gateway.guest import Guest
 from silo.gateway.lane import HALF_LIFE, MOST_AT_FIRST, Costs, Lane
 from silo.gateway.pieces import Pieces
 from silo.gateway.replied import keys_of, says_no_request, tenant_told
+from silo.gateway.told import NOT_NOW
 from silo.lines import StrangeReply
 
 from .gateways import call, echo
@@ -328,6 +330,15 @@ class Turns(unittest.TestCase):
         self.desk.open(lambda data: self.written.extend(data.splitlines()), lambda: self.worked)
         self.desk.fill()
         self.assertEqual(len(self.written), 1)
+
+    def test_what_the_gateway_asked_is_no_step_that_was_refused_when_the_program_ends(self) -> None:
+        asker = OwnAsker("tick")
+        asker.is_waiting = self.desk.ask(asker, step(b'{"op":"tick","now":1}\n'))
+        with mock.patch("silo.gateway.clock.tell") as tell:
+            self.desk.lose()
+            self.assertEqual((tell.called, asker.is_waiting), (False, False))
+            asker.tell(NOT_NOW)
+            self.assertTrue(tell.called)
 
     def test_what_is_told_behind_the_gateways_own_line(self) -> None:
         guests = [Kept(self.desk, self.lanes[name]) for name in ("red", "blue")]

@@ -122,7 +122,8 @@ class Desk:
                 told = b"".join([fault_to(LOST, *asked_by(key)) for key in lost])
             else:
                 told = NOT_NOW if asked.block.is_step else asked.block.instead
-            self._hand(asked.asker, told)
+            if asked.lane is not self.own:
+                self._hand(asked.asker, told)
             self._let_go(asked, asked.left)
         self._flush()
 
