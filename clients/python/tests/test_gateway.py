@@ -323,7 +323,7 @@ class Ends(Gateways):
         self.assertNotEqual(gateway.end(), 0)
 
     def test_by_words_that_are_refused(self) -> None:
-        for words in (["red"], ["red:1:1", "red:1:1"], ["--tcp", "0", "red:1:1"], ["--tick", "x", "red:1:1"], ["--grace", "-1", "red:1:1"], []):
+        for words in (["red"], ["red:1:1", "red:1:1"], ["--tcp", "0", "red:1:1"], ["--tick", "x", "red:1:1"], ["--grace", "-1", "red:1:1"], ["--data", "/no/where/data", "red:1:1"], []):
             with self.subTest(words), contextlib.redirect_stderr(io.StringIO()), self.assertRaises(SystemExit) as found:
                 read_options(["folder", *words])
             self.assertEqual(found.exception.code, 2)

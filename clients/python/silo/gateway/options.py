@@ -4,6 +4,7 @@ from __future__ import annotations
 
 import argparse
 import dataclasses
+import os
 import pathlib
 from typing import List, Optional, Sequence
 
@@ -105,4 +106,7 @@ def read_options(given: Sequence[str]) -> Options:
         reader.error(str(fault))
     if (options.tcp is None) != (options.tokens is None):
         reader.error("--tcp and --tokens go together")
+    # the program makes the folder itself, and not those above it
+    if options.data is not None and not os.path.isdir(above := os.path.dirname(os.path.abspath(options.data))):
+        reader.error(f"--data {options.data}: there is no folder {above}")
     return options
