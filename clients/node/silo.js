@@ -158,10 +158,20 @@ export class Silo {
   #take(reply) {
     const outcome = "ok" in reply ? reply.ok : new SiloError(reply.error, reply.text);
     if ("from" in reply && !("id" in reply)) {
-      this.options.onTold?.(reply.from, outcome);
+      try {
+        this.options.onTold?.(reply.from, outcome);
+      } catch (fault) {
+        // the service's own fault, and none of the connection
+        process.emitWarning(`onTold threw ${fault}`);
+      }
       return;
     }
     const number = "id" in reply ? Number(reply.id) : 0;
+    if (!("from" in reply) && outcome instanceof SiloError && !this.#waiting.has(0)) {
+      // the gateway doesn't let this connection in, and has read nothing of it
+      this.#end(outcome.message, false);
+      return;
+    }
     // what came too late is answered to nobody
     const waiting = this.#waiting.get(number);
     if (waiting !== undefined && number > 0 && waiting.from !== reply.from) throw new Error("a reply is to somebody else");
@@ -169,10 +179,10 @@ export class Silo {
     this.#settle(number, (it) => (outcome instanceof SiloError ? it.reject(outcome) : it.resolve(outcome)));
   }
 
-  /** @param {string} told */
-  #end(told) {
+  /** @param {string} told @param {boolean} [underWay] */
+  #end(told, underWay = true) {
     this.#ended ??= told;
-    for (const number of [...this.#waiting.keys()]) this.#settle(number, (it) => it.reject(new SiloEnded(told, true)));
+    for (const number of [...this.#waiting.keys()]) this.#settle(number, (it) => it.reject(new SiloEnded(told, underWay)));
     this.#whenOver();
   }
 }

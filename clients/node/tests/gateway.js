@@ -10,11 +10,11 @@ export const TOKEN = "a token of red's own";
 
 /** A gateway over red and blue, by Unix sockets in `folder` and by TCP at `port`. */
 export class Gateway {
-  static async start() {
+  static async start(...options) {
     const room = fs.mkdtempSync(path.join(os.tmpdir(), "silo-node-"));
     fs.writeFileSync(path.join(room, "red.token"), TOKEN);
     const program = process.env.SILO_PROGRAM ?? path.join(ROOT, "tools/slow-silo");
-    const words = ["-m", "silo.gateway", "--program", program, "--tcp", "0", "--tokens", room, path.join(room, "s"), "red:100:4", "blue:100:4"];
+    const words = ["-m", "silo.gateway", ...options, "--program", program, "--tcp", "0", "--tokens", room, path.join(room, "s"), "red:100:4", "blue:100:4"];
     const child = spawn(process.env.PYTHON ?? "python3", words, {
       env: { ...process.env, PYTHONPATH: path.join(ROOT, "clients/python") }, stdio: ["ignore", "ignore", "pipe"],
     });

@@ -95,6 +95,30 @@ test("each way in which it can end", async () => {
   served.close();
 });
 
+test("a callback that throws ends nothing", async () => {
+  const silo = await Silo.connect(gateway.socket("red"), { onTold: () => { throw new Error("its own"); } });
+  const warned = new Promise((resolve) => process.once("warning", (warning) => resolve(warning.message)));
+  const relay = silo.client("red/web").grain("relay/red:throws");
+  await relay.call("join", { grain: "counter/blue:x" });
+  await relay.call("send", { method: "get", args: null });
+  assert.equal(await warned, "onTold threw Error: its own");
+  assert.ok((await silo.client("red/web").status()).activations > 0);
+  await silo.close();
+});
+
+test("a gateway that has no room", async () => {
+  const full = await Gateway.start("--most-connections", "1");
+  const first = await Silo.connect(full.socket("red"));
+  await first.client("red/web").status();
+  const silo = await Silo.connect(full.socket("red"));
+  const isTold = (fault) => fault instanceof SiloEnded && !fault.underWay && fault.message.includes("92: gateway has no free connection");
+  await assert.rejects(silo.client("red/web").status(), isTold);
+  await assert.rejects(silo.client("red/web").status(), isTold);
+  await silo.close();
+  await first.close();
+  await full.end();
+});
+
 test("a gateway that is killed", async () => {
   const other = await Gateway.start();
   const silo = await Silo.connect(other.socket("red"));

@@ -202,7 +202,7 @@ class Connection:
             status, told = self.carrier.finish(self.exchange.is_done)
         except BaseException as strange:
             status, told = 1, f"its end can't be waited for: {strange}"
-        self.exchange.end(status, told + fault)
+        self.exchange.end(status, told, fault)
         self._over.open()
         atexit.unregister(self._exit)
         with contextlib.suppress(queue.Empty):

@@ -6,8 +6,8 @@ import collections
 import itertools
 from typing import Any, Callable, Deque, Dict, Iterator, List, Optional, Protocol, Tuple
 
-from silo.errors import SiloEnded
-from silo.lines import StrangeReply, outcome_of, read_replies, request_line
+from silo.errors import SiloEnded, SiloError
+from silo.lines import FIRST_OF_GATEWAY, NOT_A_REQUEST, StrangeReply, outcome_of, read_replies, request_line
 from silo.names import checked_caller
 
 
@@ -34,6 +34,8 @@ class Exchange:
         self._asked: Dict[Tuple[str, int], Slot] = {}
         self._fences: Deque[Slot] = collections.deque()
         self._was_done = True
+        # why a gateway doesn't let this connection in, if it has told that: then it has read nothing of it
+        self._refusal = ""
         self._torn: List[bytes] = []
 
     def check(self) -> None:
@@ -93,9 +95,11 @@ class Exchange:
         for reply in read_replies(whole):
             self._take(reply)
 
-    def end(self, status: int, told: str) -> None:
-        """Gives all that wait, and all that ask later, a SiloEnded."""
-        self.ended = (status, told)
+    def end(self, status: int, told: str, fault: str = "") -> None:
+        """Gives all that wait, and all that ask later, a SiloEnded. The fault is what is wrong with what it wrote, if something is."""
+        if fault:
+            told = f"{told.strip()}; {fault}" if told.strip() else fault
+        self.ended = (status, self._refusal or told)
         self._give_up()
 
     def _take(self, reply: Dict[str, Any]) -> None:
@@ -113,9 +117,11 @@ class Exchange:
                 self._on_told(asker, outcome)
         elif reply == {"text": "not now"}:
             self._was_done = False
-        elif "error" in reply and "from" not in reply and self._fences:
+        elif reply.get("error") == NOT_A_REQUEST and "from" not in reply and self._fences:
             was_done, self._was_done = self._was_done, True
             self._fences.popleft().put(was_done)
+        elif "from" not in reply and isinstance(refusal := outcome_of(reply), SiloError) and refusal.code >= FIRST_OF_GATEWAY:
+            self._refusal = str(refusal)
         else:
             raise StrangeReply(f"{reply!r} answers nothing that was asked")
 
@@ -124,7 +130,7 @@ class Exchange:
         for waiting, take in ((self._asked, self._pop_asked), (self._fences, self._fences.popleft)):
             while waiting:
                 try:
-                    take().put(SiloEnded(status, told, under_way=True))
+                    take().put(SiloEnded(status, told, under_way=not self._refusal))
                 except LookupError:
                     # another thread took the last one
                     break

@@ -14,6 +14,9 @@ MOST_BYTES = 65_536
 SWEEP = b'{"op":"sweep"}\n'
 # a line that says no step: it is answered with 10 once all before it is answered, and leaves nothing
 FENCE = b"fence\n"
+NOT_A_REQUEST = 10
+# codes from this one on are a gateway's (docs/gateway.md, 'Codes')
+FIRST_OF_GATEWAY = 90
 # the members beside `op`, `from` and `id` that other requests than calls have
 NEEDED = {"poke": frozenset(("grain", "state")), "status": frozenset()}
 

@@ -173,6 +173,20 @@ class Ends(Gateways):
                 Silo.connect(f"tcp:127.0.0.1:{listening.getsockname()[1]}", tenant="red", token="x", timeout=0.2)
 
 
+    def test_of_one_that_has_no_room(self) -> None:
+        gateway = self.gateway("--most-connections", "1")
+        first = Silo.connect(gateway.address(), timeout=SECONDS)
+        self.addCleanup(first.close)
+        first.status(WEB)
+        for ask in (lambda silo: silo.status(WEB), lambda silo: silo.sweep()):
+            silo = Silo.connect(gateway.address(), timeout=SECONDS)
+            for _ in range(2):
+                with self.assertRaisesRegex(SiloEnded, "with status 1: 92: gateway has no free connection$") as found:
+                    ask(silo)
+                self.assertFalse(found.exception.under_way)
+            self.assertEqual(silo.close(), 1)
+
+
 class Tasks(Loop, Shared):
     async def reached_by_tasks(self, name: str = "red", **options: Any) -> aio.Silo:
         silo = aio.Silo.connect(self.shared.address(name), **{"timeout": SECONDS, **options})
@@ -211,6 +225,33 @@ class Tasks(Loop, Shared):
         found = await asyncio.gather(*asked, return_exceptions=True)
         self.assertEqual({type(it) for it in found}, {SiloEnded})
         self.assertEqual(await silo.close(), 1)
+
+    async def test_of_one_that_has_no_room(self) -> None:
+        gateway = self.gateway("--most-connections", "1")
+        async with aio.Silo.connect(gateway.address(), timeout=SECONDS) as first:
+            await first.status(WEB)
+            silo = await aio.Silo.connect(gateway.address(), timeout=SECONDS)
+            with self.assertRaisesRegex(SiloEnded, "92: gateway has no free connection$") as found:
+                await silo.status(WEB)
+            self.assertEqual((found.exception.under_way, await silo.close()), (False, 1))
+
+    async def test_what_was_told_before_a_write_failed(self) -> None:
+        with tempfile.TemporaryDirectory() as folder, socket.socket(socket.AF_UNIX) as listening:
+            listening.bind(f"{folder}/sock")
+            listening.listen()
+            silo = await aio.Silo.connect(f"unix:{folder}/sock", timeout=SECONDS)
+            first = silo.ask(WEB, "status")
+            await asyncio.sleep(0.05)
+            its, _ = listening.accept()
+            its.recv(65_536)
+            its.sendall(b'{"from":"red/web","id":1,"ok":5}\n')
+            its.close()
+            # the loop writes this before it reads
+            second = silo.ask(WEB, "status")
+            self.assertEqual(await first, 5)
+            with self.assertRaises(SiloEnded) as found:
+                await second
+            self.assertEqual((found.exception.under_way, await silo.close()), (True, 1))
 
     async def test_much_at_once(self) -> None:
         silo = await self.reached_by_tasks()

@@ -3,14 +3,16 @@
 from __future__ import annotations
 
 import asyncio
+import contextlib
 import functools
+import socket
 from typing import Any, Callable, List, Optional, Union, cast
 
 from silo.connection import MOST_SECONDS_DEAF, Carrier
 from silo.errors import SiloTimeout
 from silo.exchange import Exchange
 from silo.forks import LEFT, leave_in_children
-from silo.process import read_less
+from silo.process import BYTES_OF_READ, read_less
 from silo.sockets import SocketEnd
 
 # how often it is looked for what wasn't answered in time
@@ -148,6 +150,12 @@ class Stream(asyncio.Protocol):
         ending = self._loop.run_in_executor(None, self.carrier.finish, self.exchange.is_done)
         ending.add_done_callback(self._end)
 
+    def read_rest(self, carried: socket.socket) -> None:
+        """Takes what had come when a write failed: the loop reads nothing more then."""
+        with contextlib.suppress(OSError):
+            while not self._fault and (data := carried.recv(BYTES_OF_READ)):
+                self.data_received(data)
+
     def _tell(self, on_told: Callable[[str, Any], object], grain: str, outcome: Any) -> None:
         self._loop.call_soon(on_told, grain, outcome)
 
@@ -171,7 +179,7 @@ class Stream(asyncio.Protocol):
     def _end(self, ending: asyncio.Future[Any]) -> None:
         fault = None if ending.cancelled() else ending.exception()
         status, told = ending.result() if fault is None and not ending.cancelled() else (1, f"its end can't be waited for: {fault}")
-        self.exchange.end(status, told + self._fault)
+        self.exchange.end(status, told, self._fault)
         if self._writing is not None:
             self._writing.close()
         self.free()
@@ -192,6 +200,8 @@ class Both(asyncio.Protocol):
         self._stream.data_received(data)
 
     def connection_lost(self, fault: Optional[Exception]) -> None:
+        if fault is not None and isinstance(self._stream.carrier, SocketEnd):
+            self._stream.read_rest(self._stream.carrier.socket)
         self._stream.connection_lost(fault)
 
     def pause_writing(self) -> None:

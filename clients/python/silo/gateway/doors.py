@@ -10,10 +10,10 @@ import os
 import pathlib
 import socket
 import stat
-from typing import IO, Callable, Dict, List, Optional, Tuple
+from typing import IO, Callable, Dict, List, Optional, Set, Tuple
 
 from silo.gateway.desk import OPERATOR, Desk
-from silo.gateway.guest import Guest
+from silo.gateway.guest import ROOM, Guest
 from silo.gateway.lane import Lane
 from silo.gateway.log import tell, tell_of_others
 from silo.gateway.stranger import Stranger
@@ -27,6 +27,8 @@ MODE_OF_SOCKETS = 0o660
 WAITING_CONNECTIONS = 128
 # connections by TCP that haven't said yet whose they are
 MOST_STRANGERS = 64
+# connections that are refused and aren't closed yet, and how long each is left open
+MOST_LEAVING, SECONDS_TO_LEAVE = 64, 1.0
 HERE = "127.0.0.1"
 
 
@@ -86,6 +88,7 @@ class Doors:
         self._servers: List[asyncio.AbstractServer] = []
         self._paths: Dict[pathlib.Path, Tuple[int, int]] = {}
         self._strangers = 0
+        self._leaving: Set[TurnedAway] = set()
         self.refused_tokens = self.refused_connections = 0
 
     @property
@@ -148,7 +151,7 @@ class Doors:
     def _turned_away(self, whose: str) -> asyncio.BaseProtocol:
         self.refused_connections += 1
         tell_of_others("warning", f"a connection is refused, since there are as many as may be of {whose}")
-        return TurnedAway()
+        return TurnedAway(self._leaving)
 
     def _count_refused(self) -> None:
         self.refused_tokens += 1
@@ -157,10 +160,33 @@ class Doors:
         self._strangers -= 1
 
 
-class TurnedAway(asyncio.Protocol):
-    """A connection for which there is no room: it is told so, and closed."""
+class TurnedAway(asyncio.BufferedProtocol):
+    """A connection for which there is no room: it is told so, and closed once it reads that or a second is over.
+
+    If it were closed at once, whoever writes a line at that moment would fail in that, and read nothing.
+    """
+
+    def __init__(self, leaving: Set[TurnedAway]) -> None:
+        self._leaving = leaving
+        self._timer: Optional[asyncio.TimerHandle] = None
 
     def connection_made(self, transport: asyncio.BaseTransport) -> None:
         assert isinstance(transport, asyncio.Transport)
         transport.write(fault(NO_ROOM))
-        transport.close()
+        if len(self._leaving) >= MOST_LEAVING:
+            transport.close()
+            return
+        transport.write_eof()
+        self._leaving.add(self)
+        self._timer = asyncio.get_running_loop().call_later(SECONDS_TO_LEAVE, transport.abort)
+
+    def get_buffer(self, sizehint: int) -> memoryview:
+        return ROOM
+
+    def buffer_updated(self, count: int) -> None:
+        """What it says is read by nobody."""
+
+    def connection_lost(self, fault_of_socket: Optional[Exception]) -> None:
+        self._leaving.discard(self)
+        if self._timer is not None:
+            self._timer.cancel()
