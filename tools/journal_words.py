@@ -2,6 +2,7 @@
 
 from __future__ import annotations
 
+import datetime
 import json
 from typing import Optional
 
@@ -18,6 +19,8 @@ COMPACT = json.JSONEncoder(separators=(",", ":"), default=object_of)
 # words of arguments, by where the argument is
 KEPT: dict[int, tuple[object, str]] = {}
 MOST_KEPT = 8_192
+# a clock between these is one that is set by the time of day, in milliseconds: from 2001 to 9999
+DAYS = range(10**12, 253_402_300_800_000)
 STORED = {"save": "was stored as", "clear": "cleared", "reload": "read"}
 
 
@@ -127,6 +130,14 @@ def sweep_words(done: Done, _machine: Machine) -> str:
     return "a sweep: " + (", ".join(grain.text() for grain in done.gone) + " went" if done.gone else "nothing went")
 
 
+def tick_words(done: Done, _machine: Machine) -> str:
+    now = done.step.now
+    if now not in DAYS:
+        return f"the clock is {now}"
+    moment = datetime.datetime.fromtimestamp(now // 1_000, datetime.timezone.utc)
+    return f"the clock is {now} ({moment:%Y-%m-%dT%H:%M:%SZ})"
+
+
 # what a step that was just done came to, on the machine that did it
 WORDS = {
     Refuse: lambda done, _machine: by_client(done, "sent a line"),
@@ -140,7 +151,7 @@ WORDS = {
     Store: store_words,
     End: end_words,
     Abandon: lambda done, _machine: turn_came_to(done, "was given up"),
-    Tick: lambda done, _machine: f"the clock is {done.step.now}",
+    Tick: tick_words,
     Sweep: sweep_words,
 }
 
