@@ -45,9 +45,16 @@ def obey(silo: Silo, words: List[str]) -> Any:
 
 
 def shell(tenants: List[str]) -> int:
-    """Reads lines until they end or one says `quit`; gives the status of the silo."""
+    """Reads lines until they end, one says `quit`, or Ctrl-C is pressed; gives the status of the silo."""
     program = os.environ.get("SILO", "silo")
     silo = Silo(*tenants, program=program, on_told=lambda grain, outcome: print(f"{grain} is told {outcome}", flush=True))
+    try:
+        return obey_all(silo)
+    except KeyboardInterrupt:
+        return silo.close()
+
+
+def obey_all(silo: Silo) -> int:
     while True:
         print("> " if sys.stdin.isatty() else "", end="", flush=True)
         line = sys.stdin.readline()

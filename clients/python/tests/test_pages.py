@@ -4,13 +4,14 @@ from __future__ import annotations
 
 import os
 import re
+import signal
 import subprocess
 import sys
 import tempfile
 import unittest
 
 from . import beside
-from .beside import CLIENT, ROOT
+from .beside import CLIENT, ROOT, SECONDS
 
 
 class Pages(unittest.TestCase):
@@ -23,6 +24,17 @@ class Pages(unittest.TestCase):
         told = ran.stdout.decode().splitlines()
         self.assertEqual((ran.returncode, ran.stderr, told[0], told[1][:5]), (0, b"", "3", "GRAIN"))
         self.assertEqual((told[4][:3], told[5][:3], told[6], told[7], told[8][:8], told[-1]), ("now", "now", "null", '"two words"', "the line", "true"))
+
+    def test_the_shell_that_is_interrupted(self) -> None:
+        environment = {**os.environ, "SILO": beside.program}
+        pipe = subprocess.PIPE
+        with subprocess.Popen([sys.executable, "-m", "silo", "red:2:4"], cwd=CLIENT, env=environment, stdin=pipe, stdout=pipe, stderr=pipe) as shell:
+            assert shell.stdin is not None and shell.stdout is not None
+            shell.stdin.write(b"counter/red:a add by=3\n")
+            shell.stdin.flush()
+            self.assertEqual(shell.stdout.readline(), b"3\n")
+            shell.send_signal(signal.SIGINT)
+            self.assertEqual((shell.wait(SECONDS), shell.stderr and shell.stderr.read()), (0, b""))
 
     def test_the_shell_without_tenants(self) -> None:
         for words in ([], ["--help"], ["red"]):
