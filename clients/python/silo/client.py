@@ -99,12 +99,12 @@ class Silo:
     def ask(self, caller: str, op: str, **members: Any) -> Answer:
         """Asks as `call`, `poke` and `status` do, and gives at once what will have the value, a SiloError or a SiloEnded.
 
-        It waits only while 10,000 lines of others are unwritten.
+        It waits only while 10,000 lines are unwritten; a SiloTimeout if that takes longer than a call may.
         """
         said = members_of(op, members)
         connection = self._live
         answer = Answer(self._seconds, connection.later)
-        connection.ask(op, caller, said, answer)
+        connection.ask(op, caller, said, answer, self._seconds)
         return answer
 
     def call(self, caller: str, grain: str, method: str, args: Value = None, *, timeout: Optional[float] = None) -> Any:
@@ -141,15 +141,18 @@ class Silo:
         return self._connection.close()
 
     def _answered(self, op: str, caller: str, members: str, timeout: Optional[float]) -> Any:
-        return self._come(functools.partial(self._live.ask, op, caller, members, at_once=True), timeout)
+        seconds = self._time(timeout)
+        return self._come(functools.partial(self._live.ask, op, caller, members, seconds=seconds, at_once=True), seconds)
 
     def _in_order(self, step: bytes, timeout: Optional[float]) -> bool:
-        return self._come(functools.partial(self._live.ask_in_order, step + FENCE), timeout) is True
+        return self._come(functools.partial(self._live.ask_in_order, step + FENCE), self._time(timeout)) is True
 
-    def _come(self, ask: Callable[[queue.SimpleQueue[Any]], None], timeout: Optional[float]) -> Any:
+    def _time(self, timeout: Optional[float]) -> float:
+        return self._seconds if timeout is None else timeout
+
+    def _come(self, ask: Callable[[queue.SimpleQueue[Any]], None], seconds: float) -> Any:
         """Asks, and waits for what comes into the slot: by one call of C, which an interrupt can't tear."""
         slot: queue.SimpleQueue[Any] = queue.SimpleQueue()
-        seconds = self._seconds if timeout is None else timeout
         limit = bounded(seconds)
         ask(slot)
         try:

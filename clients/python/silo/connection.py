@@ -7,12 +7,13 @@ import contextlib
 import functools
 import io
 import logging
+import math
 import queue
 import threading
 import time
 from typing import Any, Callable, Optional, Protocol, Tuple, Union
 
-from silo.errors import SiloEnded
+from silo.errors import SiloEnded, SiloTimeout
 from silo.exchange import Exchange, Slot
 from silo.forks import LEFT, leave_in_children
 from silo.latch import Latch
@@ -76,13 +77,20 @@ class Connection:
         for thread in self._threads:
             thread.start()
 
-    def ask(self, op: str, caller: str, members: str, slot: Slot, *, at_once: bool = False) -> None:
-        """Asks, and has the slot wait for the reply. It waits itself only while too many lines are unwritten."""
+    def ask(self, op: str, caller: str, members: str, slot: Slot, seconds: float = math.inf, *, at_once: bool = False) -> None:
+        """Asks, and has the slot wait for the reply. It waits itself only while too many lines are unwritten; a SiloTimeout if that takes longer."""
+        if self._lines.qsize() > MOST_UNWRITTEN:
+            self._wait_for_room(seconds)
         line = self.exchange.request(op, caller, members, slot)
         if at_once and self.exchange.is_alone and len(line) <= self.carrier.whole and self._write_alone(line):
             return
         self._lines.put(line)
+
+    def _wait_for_room(self, seconds: float) -> None:
+        until = time.monotonic() + seconds
         while self._lines.qsize() > MOST_UNWRITTEN and not self._over.is_open:
+            if time.monotonic() >= until:
+                raise SiloTimeout(seconds)
             time.sleep(0.002)
 
     def ask_in_order(self, step: bytes, slot: Slot) -> None:

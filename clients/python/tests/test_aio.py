@@ -78,6 +78,14 @@ class Tasks(Loop):
         found = await asyncio.gather(*asked, return_exceptions=True)
         self.assertEqual({type(it) for it in found}, {SiloTimeout})
 
+    async def test_a_pipe_that_stays_full(self) -> None:
+        silo = await self.began("red:1:1", program=self.stub("time.sleep(600)"), timeout=0.2)
+        self.addCleanup(silo._started.carrier.kill)
+        for _ in range(6):
+            with self.assertRaises(SiloTimeout):
+                await asyncio.wait_for(silo.call(WEB, "sheet/red:s", "put", "x" * 60_000), SECONDS)
+        self.assertTrue(silo._started.is_full)
+
     async def test_what_is_not_written(self) -> None:
         silo = await self.began()
         for unfit in (lambda: silo.call("red", COUNTER, "get"), lambda: silo.call(WEB, COUNTER, "get", 1.5), lambda: silo.tick(-1)):

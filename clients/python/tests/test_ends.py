@@ -186,6 +186,17 @@ class Timeouts(Case):
             self.assertEqual(found.exception.seconds, seconds)
             self.assertIn("is not known", str(found.exception))
 
+    def test_of_a_silo_that_reads_nothing(self) -> None:
+        silo = self.started("red:1:1", program=self.stub("time.sleep(600)"), timeout=0.2)
+        self.addCleanup(silo._connection.carrier.kill)
+        with mock.patch("silo.connection.MOST_UNWRITTEN", 10):
+            with self.assertRaises(SiloTimeout):
+                for _ in range(100):
+                    silo.ask(WEB, "call", grain=COUNTER, method="x" * 60_000)
+            for ask in (lambda: silo.status(WEB), lambda: silo.status(WEB, timeout=0.1), lambda: silo.tick(1)):
+                with self.assertRaises(SiloTimeout):
+                    ask()
+
     def test_a_reply_that_comes_late_is_nobodys(self) -> None:
         reply = "write(b'{\"from\":\"red/web\",\"id\":%d,\"ok\":%d}\\n' % (n, n))"
         silo = self.started("red:1:1", program=self.stub(f"read()\nread()\nfor n in (1, 2): {reply}\nread()"))

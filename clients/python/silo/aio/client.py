@@ -157,10 +157,10 @@ class Silo:
         return self._stream
 
     async def _answered(self, op: str, caller: str, members: str, timeout: Optional[float]) -> Any:
-        stream = self._live
+        stream, seconds = self._live, self._time(timeout)
         if stream.is_full:
-            await stream.room()
-        return await stream.ask(op, caller, members, self._time(timeout))
+            await stream.room(seconds)
+        return await stream.ask(op, caller, members, seconds)
 
     def _time(self, timeout: Optional[float]) -> float:
         return self._seconds if timeout is None else timeout

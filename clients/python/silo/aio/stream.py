@@ -12,6 +12,7 @@ from silo.connection import MOST_SECONDS_DEAF, Carrier
 from silo.errors import SiloTimeout
 from silo.exchange import Exchange
 from silo.forks import LEFT, leave_in_children
+from silo.latch import bounded
 from silo.process import BYTES_OF_READ, read_less
 from silo.sockets import SocketEnd
 
@@ -99,10 +100,13 @@ class Stream(asyncio.Protocol):
     def is_full(self) -> bool:
         return self._room is not None
 
-    async def room(self) -> None:
-        """Waits while the silo takes nothing more in."""
+    async def room(self, seconds: float) -> None:
+        """Waits while the silo takes nothing more in; a SiloTimeout if that is longer than so many seconds."""
+        until = self._loop.time() + seconds
         while self._room is not None:
-            await asyncio.shield(self._room)
+            found, _ = await asyncio.wait([self._room], timeout=bounded(until - self._loop.time()))
+            if not found:
+                raise SiloTimeout(seconds)
 
     def _put(self, line: bytes) -> None:
         if not self._lines:
