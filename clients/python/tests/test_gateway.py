@@ -287,6 +287,20 @@ class Tokens(Gateways):
         wires[0].close()
         soon(lambda: settled(lambda: self.wire(self.held).ask(echo(1, "room"))) == echoed(1, "room"))
 
+    def test_who_is_refused_is_cut_off(self) -> None:
+        gateway = self.gateway("--most-connections", "1")
+        held = self.wire(gateway)
+        self.assertEqual(held.ask(echo(1, "room")), echoed(1, "room"))
+        refused = [self.wire(gateway) for _ in range(70)]
+        for wire in refused:
+            # it says something before it reads, and stays
+            with contextlib.suppress(BrokenPipeError):
+                wire.say(echo(1, "room"))
+        self.assertEqual([wire.hear()["error"] for wire in refused], [92] * 70)
+        soon(lambda: isinstance(settled(lambda: refused[0].say(echo(2, "room"))), BrokenPipeError))
+        refused.append(self.wire(gateway))
+        self.assertEqual((refused[-1].hear()["error"], gateway.end()), (92, 0))
+
 
 class Ends(Gateways):
     def ends(self, number: int) -> None:

@@ -126,6 +126,8 @@ class Doors:
         """Lets nobody in any more."""
         for server in self._servers:
             server.close()
+        for turned_away in list(self._leaving):
+            turned_away.end()
         for path, file in self._paths.items():
             with contextlib.suppress(OSError):
                 # if somebody has removed the folder, another gateway's socket may stand there
@@ -168,6 +170,7 @@ class TurnedAway(asyncio.BufferedProtocol):
 
     def __init__(self, leaving: Set[TurnedAway]) -> None:
         self._leaving = leaving
+        self._transport: Optional[asyncio.Transport] = None
         self._timer: Optional[asyncio.TimerHandle] = None
 
     def connection_made(self, transport: asyncio.BaseTransport) -> None:
@@ -177,8 +180,13 @@ class TurnedAway(asyncio.BufferedProtocol):
             transport.close()
             return
         transport.write_eof()
+        self._transport = transport
         self._leaving.add(self)
-        self._timer = asyncio.get_running_loop().call_later(SECONDS_TO_LEAVE, transport.abort)
+        self._timer = asyncio.get_running_loop().call_later(SECONDS_TO_LEAVE, self.end)
+
+    def end(self) -> None:
+        if self._transport is not None:
+            self._transport.abort()
 
     def get_buffer(self, sizehint: int) -> memoryview:
         return ROOM
