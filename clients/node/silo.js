@@ -19,6 +19,8 @@ const CALLER = new RegExp(`^${WORD}/${WORD}$`);
 const GRAIN = new RegExp(`^${WORD}/${WORD}:[!-~]{1,128}$`);
 const MOST_BYTES = 65_536;
 const DEFAULT_MILLISECONDS = 60_000;
+// what Node's timers can wait for; a longer timeout is for ever
+const MOST_MILLISECONDS = 2 ** 31 - 1;
 
 /** A request that was refused, or that its grain answered by a fault: its code and text, as docs/formats.md lists them. */
 export class SiloError extends Error {
@@ -121,7 +123,7 @@ export class Silo {
     const milliseconds = this.options.timeout ?? DEFAULT_MILLISECONDS;
     return new Promise((resolve, reject) => {
       const late = () => this.#settle(number, (waiting) => waiting.reject(new SiloTimeout(milliseconds)));
-      const timer = milliseconds === Infinity ? undefined : setTimeout(late, milliseconds);
+      const timer = milliseconds > MOST_MILLISECONDS ? undefined : setTimeout(late, milliseconds);
       this.#waiting.set(number, { from, resolve, reject, timer });
       this.socket.write(line);
     });

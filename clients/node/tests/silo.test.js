@@ -65,6 +65,17 @@ test("many at once, by two connections of one caller", async () => {
   await Promise.all(silos.map((silo) => silo.close()));
 });
 
+test("timeouts for ever", async () => {
+  for (const timeout of [Infinity, 2 ** 31]) {
+    const silo = await Silo.connect(gateway.socket("red"), { timeout });
+    const asked = silo.client("red/web").status();
+    // longer than a timer would wait that is told a number it can't take
+    for (const until = Date.now() + 20; Date.now() < until;);
+    assert.ok((await asked).clock > 0);
+    await silo.close();
+  }
+});
+
 test("by TCP with a token", async () => {
   const silo = await Silo.connect({ port: gateway.port, tenant: "red", token: TOKEN });
   assert.equal(await silo.client("red/web").grain("counter/red:tcp").call("add", { by: 2 }), 2);

@@ -11,6 +11,7 @@ import sys
 from typing import Optional, Tuple, Union
 
 from silo.errors import SiloEnded
+from silo.latch import bounded
 
 # bytes of the line by which a gateway answers who enters by TCP
 MOST_BYTES_OF_ENTRY = 8_192
@@ -103,7 +104,7 @@ def connected(address: str, tenant: Optional[str], token: Optional[str], seconds
     else:
         raise ValueError(f"{address!r} is no gateway: it has to be unix:PATH, or tcp:HOST:PORT with a tenant and a token")
     try:
-        carried.settimeout(seconds)
+        carried.settimeout(None if seconds is None else bounded(seconds))
         carried.connect(where)
         if tenant is not None and token is not None:
             carried.setsockopt(socket.IPPROTO_TCP, socket.TCP_NODELAY, 1)

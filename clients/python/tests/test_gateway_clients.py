@@ -5,6 +5,7 @@ from __future__ import annotations
 import asyncio
 import contextlib
 import io
+import math
 import os
 import pathlib
 import re
@@ -78,6 +79,12 @@ class Threads(Shared):
             with contextlib.redirect_stdout(told):
                 exec(compile(example, str(page), "exec"), {"Silo": Silo})
             self.assertRegex(told.getvalue(), r"^\d+\n$")
+
+    def test_timeouts_for_ever(self) -> None:
+        for timeout in (math.inf, 1e300, None):
+            silo = Silo.connect(self.shared.address(), timeout=timeout)
+            self.assertEqual(silo.status(WEB)["clock"] > 0, True)
+            self.assertEqual(silo.close(), 0)
 
     def test_addresses_that_are_none(self) -> None:
         for address in ("", "unix:", "red.sock", "tcp:127.0.0.1:1"):
@@ -225,6 +232,11 @@ class Tasks(Loop, Shared):
         found = await asyncio.gather(*asked, return_exceptions=True)
         self.assertEqual({type(it) for it in found}, {SiloEnded})
         self.assertEqual(await silo.close(), 1)
+
+    async def test_timeouts_for_ever(self) -> None:
+        for timeout in (math.inf, 1e300, None):
+            async with aio.Silo.connect(self.shared.address(), timeout=timeout) as silo:
+                self.assertEqual((await silo.status(WEB))["clock"] > 0, True)
 
     async def test_of_one_that_has_no_room(self) -> None:
         gateway = self.gateway("--most-connections", "1")
