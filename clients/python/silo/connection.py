@@ -199,6 +199,9 @@ class Connection:
                 if not data:
                     break
                 self.exchange.feed(data)
+        except ConnectionResetError:
+            # a gateway has closed the connection, with lines that it hasn't read
+            pass
         except BaseException as strange:
             fault = f"what it writes can't be read: {strange}"
             self.carrier.kill()

@@ -180,6 +180,19 @@ class Ends(Gateways):
                 Silo.connect(f"tcp:127.0.0.1:{listening.getsockname()[1]}", tenant="red", token="x", timeout=0.2)
 
 
+    def test_of_one_that_leaves_lines_unread(self) -> None:
+        with tempfile.TemporaryDirectory() as folder, socket.socket(socket.AF_UNIX) as listening:
+            listening.bind(f"{folder}/sock")
+            listening.listen()
+            silo = Silo.connect(f"unix:{folder}/sock", timeout=SECONDS)
+            asked = silo.ask(WEB, "status")
+            its, _ = listening.accept()
+            its.recv(1, socket.MSG_PEEK)
+            its.close()
+            with self.assertRaisesRegex(SiloEnded, "with status 1: the gateway closed the connection; whether the request was done is not known$"):
+                asked.result()
+            self.assertEqual(silo.close(), 1)
+
     def test_of_one_that_has_no_room(self) -> None:
         gateway = self.gateway("--most-connections", "1")
         first = Silo.connect(gateway.address(), timeout=SECONDS)
