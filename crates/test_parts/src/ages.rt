@@ -63,7 +63,7 @@ fn add_all(alloc: Global, list: &mut Kinds, fields: &mut Fields<'_>) -> Result<(
     Ok(())
 }
 
-/// So many numbered kinds, and those of the fields behind the number.
+/// As many numbered kinds as the first field says, and those of the fields after it.
 fn kinds(alloc: Global, fields: &mut Fields<'_>) -> Result<Kinds, Fail> {
     let mut list = Vec::new(alloc);
     add_all(alloc, &mut list, fields)?;

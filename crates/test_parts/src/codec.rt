@@ -2,7 +2,7 @@
 //!
 //! The calls of `turn_arena` that aren't here are run by the turns of `kinds`.
 
-use crate::compare::{same, same_copy};
+use crate::compare::{are_bytes, is_text, same, same_copy};
 use crate::rows::{Fields, Subject, hold, show, tell};
 use crate::values::{message, parsed, read_state, spelled, state};
 use bumpalo::Bump;
@@ -242,7 +242,7 @@ fn refused_parts(alloc: Global, bytes: &[u8]) -> Result<usize, Fail> {
     Ok(bytes.len())
 }
 
-/// A text of so many bytes `x`.
+/// A text of that many bytes `x`.
 fn long_text(alloc: Global, count: u64) -> Result<Datum, Fail> {
     let mut text = String::new(alloc);
     for _ in 0..count {
@@ -258,7 +258,7 @@ fn message_length(alloc: Global, value: Datum) -> Result<usize, CodecFault> {
     Ok(message?.bytes().len())
 }
 
-/// The same of a text of so many bytes.
+/// The same of a text of that many bytes.
 fn text_length(alloc: Global, count: &str) -> Result<Result<usize, CodecFault>, Fail> {
     Ok(message_length(alloc, long_text(alloc, count.parse()?)?))
 }
@@ -270,19 +270,19 @@ fn is_json(alloc: Global, value: Datum, wanted: &str) -> Result<bool, Fail> {
     let json = json?;
     let text = json.to_string(alloc);
     drop(json);
-    Ok(text?.as_str() == wanted)
+    Ok(is_text(&text?, wanted))
 }
 
 fn is_call(alloc: Global, call: (String, Datum), method: &str, json: &str) -> Result<bool, Fail> {
     let (name, value) = call;
-    Ok(is_json(alloc, value, json)? && name.as_str() == method)
+    Ok(is_json(alloc, value, json)? && is_text(&name, method))
 }
 
 /// A message that was kept, and a copy of it, say this.
 fn is_kept(alloc: Global, message: &Message, method: &str, json: &str) -> Result<bool, Fail> {
     same_copy(message)?;
     let call = decode_message(alloc, message)?;
-    Ok(is_call(alloc, call, method, json)? && message.method() == method)
+    Ok(is_call(alloc, call, method, json)? && is_text(message.method(), method))
 }
 
 /// The message of a method and JSON, with no value made of it.
@@ -299,11 +299,11 @@ fn is_decoded(alloc: Global, bytes: &[u8], method: &str, json: &str) -> Result<b
 
 fn is_encoded(alloc: Global, bytes: &[u8], method: &str, json: &str) -> Result<bool, Fail> {
     let kept = message(alloc, method, json)?;
-    Ok(is_kept(alloc, &kept, method, json)? && kept.bytes() == bytes)
+    Ok(is_kept(alloc, &kept, method, json)? && are_bytes(kept.bytes(), bytes))
 }
 
 fn is_direct(alloc: Global, bytes: &[u8], method: &str, json: &str) -> Result<bool, Fail> {
-    Ok(direct(alloc, method, json)?.bytes() == bytes)
+    Ok(are_bytes(direct(alloc, method, json)?.bytes(), bytes))
 }
 
 /// The bytes are the message of this method and this argument, and nothing else is.
@@ -321,11 +321,11 @@ fn shared(alloc: Global, bytes: &[u8]) -> Result<SharedState, Fail> {
 fn is_of(alloc: Global, state: &StateBytes, bytes: &[u8], json: &str) -> Result<bool, Fail> {
     same_copy(state)?;
     let value = decode_state(alloc, state)?;
-    Ok(is_json(alloc, value, json)? && state.bytes() == bytes)
+    Ok(is_json(alloc, value, json)? && are_bytes(state.bytes(), bytes))
 }
 
 fn is_shared(alloc: Global, bytes: &[u8]) -> Result<bool, Fail> {
-    Ok(shared(alloc, bytes)?.state().bytes() == bytes)
+    Ok(are_bytes(shared(alloc, bytes)?.state().bytes(), bytes))
 }
 
 /// The bytes are the state of this value, and the state is shared.
@@ -335,7 +335,7 @@ fn is_state(alloc: Global, bytes: &[u8], json: &str) -> Result<bool, Fail> {
 }
 
 fn has(state: StateBytes, bytes: &[u8]) -> bool {
-    state.bytes() == bytes
+    are_bytes(state.bytes(), bytes)
 }
 
 /// The faults of JSON, if it is converted, and if it is encoded with no value made of it.
@@ -382,7 +382,7 @@ fn is_integer(bytes: &[u8], number: &str) -> Result<bool, Fail> {
 /// Whether the bytes of a message are migrated to those.
 fn is_migrated(alloc: Global, bytes: &[u8], new: &str) -> Result<bool, Fail> {
     let new = spelled(alloc, new)?;
-    Ok(migrate_message(alloc, bytes)?.bytes() == new.as_slice())
+    Ok(are_bytes(migrate_message(alloc, bytes)?.bytes(), &new))
 }
 
 fn is_written(alloc: Global, bytes: &[u8]) -> Result<bool, Fail> {

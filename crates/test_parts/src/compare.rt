@@ -23,3 +23,13 @@ pub fn same_at<T: PartialEq + Debug + Drop>(row: &str, found: T, wanted: T) -> R
 pub fn same_copy<T: Clone + PartialEq + Drop>(it: &T) -> Result<(), Fail> {
     same(it.clone()? == *it, true)
 }
+
+/// Whether two texts are the same. A call of this costs less proof than `==` of what is lent.
+pub fn is_text(one: &str, other: &str) -> bool {
+    one == other
+}
+
+/// Whether bytes are the same.
+pub fn are_bytes(some: &[u8], others: &[u8]) -> bool {
+    some == others
+}

@@ -1,6 +1,6 @@
 //! Activations that come and go, and the numbers of their tenants.
 
-use crate::rows::{Fields, Subject, hold, show, tell};
+use crate::rows::{Fields, Subject, hold, tell};
 use crate::values::grain;
 use activation_directory::{Activation, Directory, Phase};
 use grain_id::{GrainId, HashSeed};
@@ -181,6 +181,22 @@ fn found(directory: &Directory, place: &str) -> Result<u64, Fail> {
     Ok(at(directory, place.parse()?))
 }
 
+/// What the directory answers, as a number: a count, or the moment of an activation.
+fn told(
+    alloc: Global,
+    directory: &mut Directory,
+    call: &str,
+    fields: &mut Fields<'_>,
+) -> Result<u64, Fail> {
+    let first = fields.text();
+    match call {
+        "count" => Ok(directory.count(first) as u64),
+        "len" => Ok(directory.len() as u64),
+        "at" => found(directory, first),
+        _ => answer_about(alloc, directory, first, call, fields),
+    }
+}
+
 impl Subject for Activations {
     fn answer(
         &mut self,
@@ -189,20 +205,11 @@ impl Subject for Activations {
         fields: &mut Fields<'_>,
         out: &mut String,
     ) -> Result<(), Fail> {
-        let first = fields.text();
-        match call {
-            "new" => {
-                self.directory = new(alloc, self.seeded);
-                Ok(())
-            }
-            "count" => show(out, self.directory.count(first)),
-            "len" => show(out, self.directory.len()),
-            "at" => tell(out, found(&self.directory, first)),
-            _ => {
-                let answer = answer_about(alloc, &mut self.directory, first, call, fields);
-                tell(out, answer)
-            }
+        if call == "new" {
+            self.directory = new(alloc, self.seeded);
+            return Ok(());
         }
+        tell(out, told(alloc, &mut self.directory, call, fields))
     }
 }
 

@@ -84,7 +84,7 @@ fn add_all(alloc: Global, list: &mut Tenants, fields: &mut Fields<'_>) -> Result
     Ok(())
 }
 
-/// So many numbered tenants, and those of the fields behind the number.
+/// As many numbered tenants as the first field says, and those of the fields after it.
 fn tenants(alloc: Global, fields: &mut Fields<'_>) -> Result<Tenants, Fail> {
     let mut list = Vec::new(alloc);
     add_all(alloc, &mut list, fields)?;
@@ -99,7 +99,7 @@ fn activations(table: &TenantTable, name: &str) -> u32 {
     }
 }
 
-/// How many of so many numbered tenants are found.
+/// How many of that many numbered tenants are found.
 fn found(alloc: Global, table: &TenantTable, count: &str) -> Result<u32, Fail> {
     let count: u32 = count.parse()?;
     let mut found = 0_u32;

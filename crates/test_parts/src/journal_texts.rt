@@ -3,7 +3,7 @@
 use std::test::Fail;
 
 /// The journal of one tenant whose counter is asked to add 3.
-static WORKED: &str = "silo-journal 1
+const WORKED: &str = "silo-journal 1
 age 900000
 tenant red 2 4
 call red/c1 1 counter/red:a 01000000036164640600000001000000026279030000000000000003
@@ -16,7 +16,7 @@ close 5
 ";
 
 /// The same in the third form, as a silo writes it whose grains may rest and stay.
-static SERVED: &str = "silo-journal 3
+const SERVED: &str = "silo-journal 3
 kinds 2
 age 900000
 tenant red 2 4
@@ -29,8 +29,8 @@ reply red/c1 1 ok 030000000000000003
 close 5
 ";
 
-/// A journal whose one reply tells a fault.
-static FAULT: &str = "silo-journal 1
+/// A journal whose one reply is a fault.
+const FAULT: &str = "silo-journal 1
 age 1
 tenant red 1 1
 status blue/c1 1
@@ -40,7 +40,7 @@ close 1
 ";
 
 /// A journal with a line of each kind.
-static EACH_KIND: &str = "silo-journal 1
+const EACH_KIND: &str = "silo-journal 1
 age 86400000
 tenant red 2 4
 tenant blue-2 10000 1000
@@ -66,7 +66,7 @@ close 13
 ";
 
 /// A journal of the second form, in which two kinds have an age of their own.
-static SECOND: &str = "silo-journal 2
+const SECOND: &str = "silo-journal 2
 kinds 2
 age 900000
 kind counter 10
@@ -77,7 +77,7 @@ close 1
 ";
 
 /// The worked journal, migrated.
-static WORKED_NOW: &str = "silo-journal 3
+const WORKED_NOW: &str = "silo-journal 3
 kinds 1
 age 900000
 tenant red 2 4
@@ -91,7 +91,7 @@ close 5
 ";
 
 /// A journal of two tenants.
-static TWO_TENANTS: &str = "silo-journal 1
+const TWO_TENANTS: &str = "silo-journal 1
 age 900000
 tenant red 4 8
 tenant blue 2 4
@@ -157,7 +157,7 @@ close 44
 ";
 
 /// A journal of the third form, in which bytes stand among values and a line was refused for its bytes.
-static WITH_BYTES: &str = "silo-journal 3
+const WITH_BYTES: &str = "silo-journal 3
 kinds 2
 age 1
 kind sheet 5
@@ -169,36 +169,46 @@ row sheet/red:s 1 070000000200ff
 close 2
 ";
 
-/// The journal of a name.
-pub fn text_of(name: &str) -> Result<&'static str, Fail> {
-    match name {
-        "worked" => Ok(WORKED),
-        "served" => Ok(SERVED),
-        "fault" => Ok(FAULT),
-        "each kind" => Ok(EACH_KIND),
-        "second" => Ok(SECOND),
-        "worked now" => Ok(WORKED_NOW),
-        "two tenants" => Ok(TWO_TENANTS),
-        "with bytes" => Ok(WITH_BYTES),
-        _ => Err(Fail::from("no journal has that name")),
-    }
-}
+/// The journals by their names, and what stands before a line by the name of its place.
+static TEXTS: [(&str, &str); 17] = [
+    ("worked", WORKED),
+    ("served", SERVED),
+    ("fault", FAULT),
+    ("each kind", EACH_KIND),
+    ("second", SECOND),
+    ("worked now", WORKED_NOW),
+    ("two tenants", TWO_TENANTS),
+    ("with bytes", WITH_BYTES),
+    ("head", ""),
+    ("age", "silo-journal 1\n"),
+    ("tenant", "silo-journal 1\nage 1\n"),
+    // after the head of the second form
+    ("kinds", "silo-journal 2\n"),
+    // after the age of a journal of the second form
+    ("kind", "silo-journal 2\nkinds 2\nage 1\n"),
+    // after a kind that has an age of its own
+    (
+        "next kind",
+        "silo-journal 2\nkinds 1\nage 1\nkind sheet 5\n",
+    ),
+    // among the steps, the replies or the rows, in each form
+    ("body", "silo-journal 1\nage 1\ntenant red 1 1\n"),
+    (
+        "second body",
+        "silo-journal 2\nkinds 2\nage 1\ntenant red 1 1\n",
+    ),
+    (
+        "third body",
+        "silo-journal 3\nkinds 2\nage 1\ntenant red 1 1\n",
+    ),
+];
 
-/// Where a line belongs: what stands before it, and how many lines that are.
-pub fn place_of(name: &str) -> (&'static str, usize) {
-    match name {
-        "head" => ("", 0),
-        "age" => ("silo-journal 1\n", 1),
-        "tenant" => ("silo-journal 1\nage 1\n", 2),
-        // behind the head of the second form
-        "kinds" => ("silo-journal 2\n", 1),
-        // behind the age of a journal of the second form
-        "kind" => ("silo-journal 2\nkinds 2\nage 1\n", 3),
-        // behind a kind that has an age of its own
-        "next kind" => ("silo-journal 2\nkinds 1\nage 1\nkind sheet 5\n", 4),
-        // among the steps, the replies or the rows, in each form
-        "body" => ("silo-journal 1\nage 1\ntenant red 1 1\n", 3),
-        "second body" => ("silo-journal 2\nkinds 2\nage 1\ntenant red 1 1\n", 4),
-        _ => ("silo-journal 3\nkinds 2\nage 1\ntenant red 1 1\n", 4),
+/// The journal of a name, or what stands before a line at a place of that name.
+pub fn text_of(name: &str) -> Result<&'static str, Fail> {
+    for (known, text) in &TEXTS {
+        if *known == name {
+            return Ok(*text);
+        }
     }
+    Err(Fail::from("no journal and no place has that name"))
 }

@@ -1,7 +1,8 @@
 //! Whole journals, read, written and migrated; wrong lines, and lines of each form.
 
 use crate::ages::put_ages;
-use crate::journal_texts::{place_of, text_of};
+use crate::compare::are_bytes;
+use crate::journal_texts::text_of;
 use crate::rows::{Fields, Subject, hold, put, show, tell};
 use crate::values::{caller, read_state, spelled, tenant};
 use journal_text::{
@@ -55,7 +56,7 @@ change | second | close 1\n |  | 8
 migrating | worked | tenant red 2 4 | tenant red 02 4 | 3
 "#;
 
-/// What journals tell, and what is written of them.
+/// What journals say, and what is written of them.
 static WRITTEN: &str = r#"
 # The kinds, the age, the ages of kinds, and how many tenants there are.
 head | second | 2;900000;counter;10;sheet;86400000;1
@@ -86,7 +87,7 @@ kinds | 75 | 68
 cuts | worked | 0
 "#;
 
-/// Lines at a place of a journal that ends behind them: see `place_of`. How far behind the place the line at fault is: such a
+/// Lines at a place of a journal that ends after them: see `text_of`. How far after the place the line at fault is: such a
 /// journal has no close, so a line that is taken makes the next one the line at fault.
 static LINES: &str = "
 # Lines that have a form.
@@ -238,6 +239,12 @@ fn migrating_verdict(alloc: Global, bytes: &[u8]) -> Result<usize, Fail> {
     }
 }
 
+/// How far after a place the line at fault is, if this line stands there.
+fn lines_behind(alloc: Global, before: &str, line: &str) -> Result<usize, Fail> {
+    let text = format!(in alloc; "{before}{line}\n")?;
+    Ok(verdict(alloc, text.as_bytes())?.saturating_sub(before.lines().count()))
+}
+
 /// Lines of a journal.
 #[derive(Clone, Copy)]
 struct Lines;
@@ -250,10 +257,7 @@ impl Subject for Lines {
         fields: &mut Fields<'_>,
         out: &mut String,
     ) -> Result<(), Fail> {
-        let (before, count) = place_of(call);
-        let line = fields.text();
-        let text = format!(in alloc; "{before}{line}\n")?;
-        show(out, verdict(alloc, text.as_bytes())?.saturating_sub(count))
+        tell(out, lines_behind(alloc, text_of(call)?, fields.text()))
     }
 }
 
@@ -262,10 +266,10 @@ fn lines_have_a_form_or_are_at_fault(rt: HostRuntime) -> Result<(), Fail> {
     hold(rt.alloc(), &mut Lines, LINES)
 }
 
-/// The text that a field spells.
-fn unescaped(alloc: Global, field: &str) -> Result<String, Fail> {
+/// The text that fields spell.
+fn unescaped(alloc: Global, fields: &str) -> Result<String, Fail> {
     Ok(
-        field
+        fields
             .replace(alloc, "\\n", "\n")?
             .replace(alloc, "\\r", "\r")?,
     )
@@ -273,35 +277,46 @@ fn unescaped(alloc: Global, field: &str) -> Result<String, Fail> {
 
 /// A journal with one part in place of another.
 fn replaced(alloc: Global, fields: &mut Fields<'_>) -> Result<String, Fail> {
+    let spelled = unescaped(alloc, fields.rest())?;
+    let mut fields = Fields::of(&spelled);
     let text = text_of(fields.text())?;
-    let old = unescaped(alloc, fields.text())?;
-    let new = unescaped(alloc, fields.text())?;
-    Ok(text.replace(alloc, old.as_str(), &new)?)
+    let old = fields.text();
+    Ok(text.replace(alloc, old, fields.text())?)
+}
+
+/// Whether bytes are refused at this line, as they stand and where they are to be migrated.
+fn is_at(alloc: Global, bytes: &[u8], line: usize) -> Result<bool, Fail> {
+    let found = verdict(alloc, bytes)?;
+    Ok(migrating_verdict(alloc, bytes)? == line && found == line)
 }
 
 /// How many cuts aren't refused at their first line that is not whole.
-fn wrong_cuts(alloc: Global, text: &str) -> Result<usize, Fail> {
+fn wrong_cuts(alloc: Global, bytes: &[u8]) -> Result<usize, Fail> {
     let (mut line, mut wrong) = (1_usize, 0_usize);
-    for end in 0..text.len() {
-        let cut = &text.as_bytes()[..end];
-        if (verdict(alloc, cut)?, migrating_verdict(alloc, cut)?) != (line, line) {
+    for end in 0..bytes.len() {
+        if !is_at(alloc, &bytes[..end], line)? {
             wrong = wrong.saturating_add(1);
         }
-        if text.as_bytes()[end] == b'\n' {
+        if bytes[end] == b'\n' {
             line = line.saturating_add(1);
         }
     }
     Ok(wrong)
 }
 
-/// A journal in which the kinds from `k10` to the one before this have an age of their own.
-fn with_kinds(alloc: Global, fields: &mut Fields<'_>) -> Result<String, Fail> {
-    let end = fields.number()?;
-    let mut text = String::new(alloc);
-    text.push_str("silo-journal 2\nkinds 1\nage 1\n")?;
+/// Adds the kinds from `k10` to the one before this.
+fn put_kinds(text: &mut String, end: u64) -> Result<(), Fail> {
     for number in 10..end {
         write!(text, "kind k{number} 1\n")?;
     }
+    Ok(())
+}
+
+/// A journal in which the kinds from `k10` to the one before this have an age of their own.
+fn with_kinds(alloc: Global, end: u64) -> Result<String, Fail> {
+    let mut text = String::new(alloc);
+    text.push_str("silo-journal 2\nkinds 1\nage 1\n")?;
+    put_kinds(&mut text, end)?;
     text.push_str("tenant red 1 1\nclose 0\n")?;
     Ok(text)
 }
@@ -311,23 +326,33 @@ fn journal(alloc: Global, text: &str) -> Result<Journal, Fail> {
     Ok(read_journal(alloc, text.as_bytes())?)
 }
 
-fn put_head(journal: Result<Journal, Fail>, out: &mut String) -> Result<(), Fail> {
-    let journal = journal?;
-    let (kinds, age) = (journal.kinds(), journal.age().millis());
+fn put_numbers(kinds: u8, age: u64, out: &mut String) -> Result<(), Fail> {
     write!(out, "{kinds};{age};")?;
+    Ok(())
+}
+
+fn put_head(journal: &Journal, out: &mut String) -> Result<(), Fail> {
+    put_numbers(journal.kinds(), journal.age().millis(), out)?;
     put_ages(journal.ages().list(), out)?;
     show(out, journal.tenants().len())
 }
 
-/// What a reply tells: its tenant, and the code and the text of a fault, or how many bytes a value has.
-fn put_reply(reply: &RecordedReply, out: &mut String) -> Result<(), Fail> {
-    let tenant = reply.recipient.tenant();
-    let (number, text) = match &reply.outcome {
-        Ok(value) => (value.bytes().len(), "bytes"),
-        Err(fault) => (fault.code() as usize, fault.text()),
-    };
+fn put_head_of(alloc: Global, text: &str, out: &mut String) -> Result<(), Fail> {
+    put_head(&journal(alloc, text)?, out)
+}
+
+fn put_told(tenant: &str, number: usize, text: &str, out: &mut String) -> Result<(), Fail> {
     write!(out, "{tenant};{number};{text};")?;
     Ok(())
+}
+
+/// What a reply says: its tenant, and the code and the text of a fault, or how many bytes a value has.
+fn put_reply(reply: &RecordedReply, out: &mut String) -> Result<(), Fail> {
+    let tenant = reply.recipient.tenant();
+    match &reply.outcome {
+        Ok(value) => put_told(tenant, value.bytes().len(), "bytes", out),
+        Err(fault) => put_told(tenant, fault.code() as usize, fault.text(), out),
+    }
 }
 
 /// The journal with these replies in place of its own, written.
@@ -393,19 +418,29 @@ fn put_last_reply(journal: &Journal, out: &mut String) -> Result<(), Fail> {
 fn is_written(alloc: Global, journal: &Journal, text: &str, word: &str) -> Result<bool, Fail> {
     let replies = replies(alloc, word)?;
     let found = written(alloc, journal, &replies)?;
-    Ok(found.as_slice() == in_third_form(alloc, text)?.as_bytes())
+    Ok(are_bytes(&found, in_third_form(alloc, text)?.as_bytes()))
 }
 
-/// What the last reply tells, and whether the journal is so written.
+/// What the last reply says, and whether the journal is so written.
+fn put_journal(
+    alloc: Global,
+    journal: &Journal,
+    text: &str,
+    word: &str,
+    out: &mut String,
+) -> Result<(), Fail> {
+    put_last_reply(journal, out)?;
+    tell(out, is_written(alloc, journal, text, word))
+}
+
+/// The same of a journal that is yet to be read.
 fn put_written(alloc: Global, text: &str, word: &str, out: &mut String) -> Result<(), Fail> {
-    let journal = journal(alloc, text)?;
-    put_last_reply(&journal, out)?;
-    show(out, is_written(alloc, &journal, text, word)?)
+    put_journal(alloc, &journal(alloc, text)?, text, word, out)
 }
 
 /// Whether the text is migrated to this one.
 fn is_migrated(alloc: Global, old: &str, new: &str) -> Result<bool, Fail> {
-    Ok(migrate_journal(alloc, old.as_bytes())?.as_slice() == new.as_bytes())
+    Ok(are_bytes(&migrate_journal(alloc, old.as_bytes())?, new.as_bytes()))
 }
 
 /// Whether the text is migrated to that of the third form, and whether that stays.
@@ -420,7 +455,7 @@ fn verdict_of_named(alloc: Global, name: &str) -> Result<usize, Fail> {
 }
 
 fn wrong_cuts_of(alloc: Global, name: &str) -> Result<usize, Fail> {
-    wrong_cuts(alloc, text_of(name)?)
+    wrong_cuts(alloc, text_of(name)?.as_bytes())
 }
 
 fn verdict_of_bytes(alloc: Global, bytes: Result<Vec<u8>, Fail>) -> Result<usize, Fail> {
@@ -435,7 +470,7 @@ fn migrating_verdict_of(alloc: Global, text: Result<String, Fail>) -> Result<usi
     migrating_verdict(alloc, text?.as_bytes())
 }
 
-/// The line at fault of what a row tells.
+/// The line at fault of what a row says.
 fn verdict_of(alloc: Global, call: &str, fields: &mut Fields<'_>) -> Result<usize, Fail> {
     match call {
         "verdict" => verdict_of_named(alloc, fields.text()),
@@ -443,7 +478,7 @@ fn verdict_of(alloc: Global, call: &str, fields: &mut Fields<'_>) -> Result<usiz
         "change" => verdict_of_text(alloc, replaced(alloc, fields)),
         "migrating" => migrating_verdict_of(alloc, replaced(alloc, fields)),
         "cuts" => wrong_cuts_of(alloc, fields.text()),
-        _ => verdict_of_text(alloc, with_kinds(alloc, fields)),
+        _ => verdict_of_text(alloc, with_kinds(alloc, fields.number()?)),
     }
 }
 
@@ -451,7 +486,7 @@ fn is_migrated_to(alloc: Global, old: &str, new: &str) -> Result<bool, Fail> {
     is_migrated(alloc, old, text_of(new)?)
 }
 
-/// What is told of a journal's text, and of a word behind it.
+/// Writes what a row asks of a journal's text, and of the word after it.
 fn put_of_text(
     alloc: Global,
     call: &str,
@@ -460,7 +495,7 @@ fn put_of_text(
     out: &mut String,
 ) -> Result<(), Fail> {
     match call {
-        "head" => put_head(journal(alloc, text), out),
+        "head" => put_head_of(alloc, text, out),
         "written" => put_written(alloc, text, word, out),
         "migrated" => tell(out, is_migrated_to(alloc, text, word)),
         _ => tell(out, is_changed(alloc, text)),

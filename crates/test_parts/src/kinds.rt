@@ -1,6 +1,6 @@
 //! Turns of each method of each kind, and their plans. States, arguments and answers are JSON.
 
-use crate::compare::same;
+use crate::compare::{are_bytes, same};
 use crate::rows::{Fields, Subject, hold, put, show, tell};
 use crate::values::{grain, message, read_state, spelled, state};
 use bumpalo::Bump;
@@ -143,7 +143,7 @@ fn put_outcome(
     }
 }
 
-/// The state of a row, told by its bytes or as JSON.
+/// The state of a row, given by its bytes or as JSON.
 fn state_of(alloc: Global, call: &str, text: &str) -> Result<StateBytes, Fail> {
     if call == "wide" {
         return read_state(alloc, &spelled(alloc, text)?);
@@ -181,7 +181,7 @@ fn finished<L: GrainLogic>(
     }
 }
 
-/// What a turn comes to.
+/// What a turn results in.
 fn put_turn<L: GrainLogic>(
     alloc: Global,
     turn: &FinishedTurn<L>,
@@ -191,16 +191,29 @@ fn put_turn<L: GrainLogic>(
     put_state(alloc, turn.state(), out)
 }
 
-/// A turn is turn 7; its grain, and what it asks and sends.
-fn put_asked(turn: &FinishedTurn<Kinds>, out: &mut String) -> Result<(), Fail> {
-    same((turn.number(), turn.input().number), (7, 7))?;
-    let (grain, asked) = (turn.grain().text(), turn.store_call());
-    write!(out, "{grain};{asked:?}")?;
+/// Whether a turn is turn 7.
+fn is_seventh(turn: &FinishedTurn<Kinds>) -> bool {
+    turn.number() == 7 && turn.input().number == 7
+}
+
+fn put_sent(target: &str, method: &str, out: &mut String) -> Result<(), Fail> {
+    write!(out, ";{target};{method}")?;
+    Ok(())
+}
+
+fn put_sends(turn: &FinishedTurn<Kinds>, out: &mut String) -> Result<(), Fail> {
     for (target, call) in turn.sends() {
-        let (target, method) = (target.text(), call.method());
-        write!(out, ";{target};{method}")?;
+        put_sent(target.text(), call.method(), out)?;
     }
     Ok(())
+}
+
+/// A turn is turn 7; its grain, and what it asks and sends.
+fn put_asked(turn: &FinishedTurn<Kinds>, out: &mut String) -> Result<(), Fail> {
+    same(is_seventh(turn), true)?;
+    put(out, turn.grain().text())?;
+    show(out, turn.store_call())?;
+    put_sends(turn, out)
 }
 
 /// The fault of a turn, and how many bytes the state has that it leaves.
@@ -242,7 +255,7 @@ fn planned(alloc: Global, turn: &OpenedTurn) -> Result<OwnedPlan, AllocError> {
     )
 }
 
-/// What a turn is planned to come to.
+/// What a turn is planned to result in.
 fn put_planned(
     alloc: Global,
     turn: Result<OpenedTurn, Fail>,
@@ -306,6 +319,16 @@ fn turns_are_planned(rt: HostRuntime) -> Result<(), Fail> {
     hold(rt.alloc(), &mut Kinds, PLANS)
 }
 
+/// What a turn results in, and what it says of the activation.
+fn put_kept(
+    alloc: Global,
+    turn: &FinishedTurn<RestingKinds>,
+    out: &mut String,
+) -> Result<(), Fail> {
+    put_turn(alloc, turn, out)?;
+    show(out, turn.keep())
+}
+
 impl Subject for RestingKinds {
     fn answer(
         &mut self,
@@ -314,12 +337,8 @@ impl Subject for RestingKinds {
         fields: &mut Fields<'_>,
         out: &mut String,
     ) -> Result<(), Fail> {
-        let turn = finished(alloc, self, opened(alloc, call, fields)?)?;
-        let told = put_turn(alloc, &turn, out);
-        let keep = turn.keep();
-        drop(turn);
-        told?;
-        show(out, keep)
+        let turn = opened(alloc, call, fields)?;
+        put_kept(alloc, &finished(alloc, self, turn)?, out)
     }
 }
 
@@ -335,7 +354,7 @@ struct Known;
 /// Whether the empty state of a kind has these bytes.
 fn begins_as(alloc: Global, kind: &str, bytes: &[u8]) -> Result<bool, Fail> {
     if Kinds.knows(kind) {
-        return Ok(Kinds.empty(alloc, kind)?.bytes() == bytes);
+        return Ok(are_bytes(Kinds.empty(alloc, kind)?.bytes(), bytes));
     }
     Err(Fail::from("the kind is unknown"))
 }
@@ -351,6 +370,17 @@ fn put_number_asked(alloc: Global, words: &str, out: &mut String) -> Result<(), 
     show(out, number_asked(&message))
 }
 
+/// Writes whether a kind is known, and whether its method only reads.
+fn put_known(kind: &str, method: &str, out: &mut String) -> Result<(), Fail> {
+    show(out, (Kinds.knows(kind), Kinds.is_read(kind, method)))
+}
+
+/// Writes what every turn of a method does, by both logics.
+fn put_shortcuts(kind: &str, method: &str, out: &mut String) -> Result<(), Fail> {
+    let alone = Kinds.shortcut(kind, method);
+    show(out, (alone, RestingKinds.shortcut(kind, method)))
+}
+
 impl Subject for Known {
     fn answer(
         &mut self,
@@ -362,13 +392,10 @@ impl Subject for Known {
         let first = fields.text();
         let second = fields.text();
         match call {
-            "reads" => show(out, (Kinds.knows(first), Kinds.is_read(first, second))),
+            "reads" => put_known(first, second, out),
             "empty" => tell(out, begins_as_spelled(alloc, first, second)),
             "asks" => put_number_asked(alloc, first, out),
-            _ => {
-                let alone = Kinds.shortcut(first, second);
-                show(out, (alone, RestingKinds.shortcut(first, second)))
-            }
+            _ => put_shortcuts(first, second, out),
         }
     }
 }

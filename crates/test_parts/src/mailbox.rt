@@ -10,7 +10,7 @@ use std::alloc::{AllocError, Global};
 use std::test::Fail;
 use turn_mailbox::{Mailbox, Request};
 
-/// Calls of a mailbox for four. A request is told by its number, and 0 is for none; 1 is for yes.
+/// Calls of a mailbox for four. A request is known by its number, and 0 is for none; 1 is for yes.
 static CALLS: &str = "
 # Readers are open together, and no writer beside them.
 new | nothing
@@ -172,6 +172,10 @@ fn asked(alloc: Global, mailbox: &Mailbox, call: &str, client: &str) -> Result<u
     Ok(told_of(mailbox, call, &caller(alloc, client)?))
 }
 
+fn numbered(mailbox: &mut Mailbox, call: &str, fields: &mut Fields<'_>) -> Result<u64, Fail> {
+    Ok(found(mailbox, call, fields.number()?))
+}
+
 /// What the mailbox answers, as a number: that of a request, a count, or 1 for yes.
 fn answer_of(
     alloc: Global,
@@ -182,7 +186,7 @@ fn answer_of(
     match call {
         "push reader" | "push writer" => requested(alloc, mailbox, call, fields),
         "front is from" | "has from" => asked(alloc, mailbox, call, fields.text()),
-        "finish" | "opened" | "at" => Ok(found(mailbox, call, fields.number()?)),
+        "finish" | "opened" | "at" => numbered(mailbox, call, fields),
         "begin" => opened(alloc, mailbox),
         _ => Ok(told(mailbox, call)),
     }

@@ -216,7 +216,7 @@ fn fault_of_text(alloc: Global, form: &str, text: &str) -> Result<Option<IdFault
     Ok(fault_of(alloc, form, &whole))
 }
 
-/// What is told of a text by itself.
+/// Writes what a row asks of one text.
 fn put_of_text(alloc: Global, call: &str, text: &str, out: &mut String) -> Result<(), Fail> {
     match call {
         "parts" => put_parts(alloc, grain(alloc, text), out),
@@ -226,7 +226,7 @@ fn put_of_text(alloc: Global, call: &str, text: &str, out: &mut String) -> Resul
     }
 }
 
-/// What is told of two texts.
+/// Writes what a row asks of two texts.
 fn put_of_two(
     alloc: Global,
     call: &str,

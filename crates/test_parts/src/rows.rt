@@ -24,7 +24,7 @@ impl<'a> Fields<'a> {
         Fields { rest: text }
     }
 
-    /// The next argument; an empty text behind the last one.
+    /// The next argument; an empty text after the last one.
     pub fn text(&mut self) -> &'a str {
         let (field, rest) = self.rest.split_once(" | ").unwrap_or((self.rest, ""));
         self.rest = rest;
@@ -33,6 +33,11 @@ impl<'a> Fields<'a> {
 
     pub fn number(&mut self) -> Result<u64, Fail> {
         Ok(self.text().parse()?)
+    }
+
+    /// The arguments that weren't read yet.
+    pub fn rest(&self) -> &'a str {
+        self.rest
     }
 
     pub fn is_over(&self) -> bool {

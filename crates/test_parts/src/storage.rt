@@ -5,7 +5,7 @@ use crate::rows::{Fields, Subject, hold, put, show, tell};
 use crate::values::grain;
 use grain_id::{GrainId, HashSeed};
 use grain_storage::{FusedStorage, GrainStorage, MemoryStorage, Row, StoreFault};
-use request_codec::{CodecFault, StateBytes};
+use request_codec::StateBytes;
 use std::alloc::Global;
 use std::test::Fail;
 
@@ -97,11 +97,6 @@ failures | 0
 /// A version, a number or none.
 type Answer = Result<Option<u64>, StoreFault>;
 
-/// The state that spells a whole number.
-fn number(alloc: Global, value: u8) -> Result<StateBytes, CodecFault> {
-    StateBytes::read(alloc, &[3, 0, 0, 0, 0, 0, 0, 0, value])
-}
-
 /// The last byte of a row's content.
 fn number_in(row: &Row) -> Option<u64> {
     match &row.content {
@@ -152,7 +147,7 @@ fn written<S: GrainStorage>(
     fields: &mut Fields<'_>,
 ) -> Result<Answer, Fail> {
     let expected = expected(fields)?;
-    let content = number(alloc, fields.text().parse()?)?;
+    let content = StateBytes::integer(fields.text().parse()?);
     Ok(version(storage.write(alloc, grain, expected, content)))
 }
 
@@ -162,7 +157,7 @@ fn poked<S: GrainStorage>(
     grain: &GrainId,
     value: &str,
 ) -> Result<Answer, Fail> {
-    let content = number(alloc, value.parse()?)?;
+    let content = StateBytes::integer(value.parse()?);
     Ok(version(storage.poke(alloc, grain, content)))
 }
 
@@ -236,11 +231,11 @@ fn rows_have_versions_and_are_listed(rt: HostRuntime) -> Result<(), Fail> {
 }
 
 /// A row with the number 3 under a version.
-fn row(alloc: Global, version: u64) -> Result<Row, Fail> {
-    Ok(Row {
+fn row(version: u64) -> Row {
+    Row {
         version,
-        content: Some(number(alloc, 3)?),
-    })
+        content: Some(StateBytes::integer(3)),
+    }
 }
 
 /// A row equals its copy, and not the other row.
@@ -254,8 +249,8 @@ fn are_told_apart(row: Row, other: Row) -> Result<(), Fail> {
 }
 
 #[test]
-fn rows_are_compared(rt: HostRuntime) -> Result<(), Fail> {
-    are_told_apart(row(rt.alloc(), 1)?, row(rt.alloc(), u64::MAX)?)
+fn rows_are_compared() -> Result<(), Fail> {
+    are_told_apart(row(1), row(u64::MAX))
 }
 
 /// A storage whose row of a grain has the number 3 under the last version.
@@ -263,7 +258,7 @@ fn with_last(alloc: Global) -> Result<MemoryStorage, Fail> {
     let grain = grain(alloc, "counter/red:a")?;
     let row = Row {
         version: u64::MAX,
-        content: Some(number(alloc, 3)?),
+        content: Some(StateBytes::integer(3)),
     };
     let rows = vec![in alloc; (grain, row)]?;
     Ok(MemoryStorage::with_rows(alloc, rows)?)

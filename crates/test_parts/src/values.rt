@@ -22,7 +22,7 @@ pub fn kind(alloc: Global, text: &str) -> Result<Kind, Fail> {
     Ok(Kind::read(alloc, text)?)
 }
 
-/// A text and a number behind it.
+/// A text and a number after it.
 pub fn numbered(alloc: Global, before: &str, number: u64) -> Result<String, Fail> {
     Ok(format!(in alloc; "{before}{number}")?)
 }
@@ -61,7 +61,7 @@ pub fn read_state(alloc: Global, bytes: &[u8]) -> Result<StateBytes, Fail> {
     Ok(StateBytes::read(alloc, bytes)?)
 }
 
-/// The bytes of a word: those of the letters behind a `'`, or those that hex digits tell.
+/// The bytes of a word: those of the letters after a `'`, or those that hex digits spell.
 fn word_bytes(alloc: Global, word: &str) -> Result<Vec<u8>, Fail> {
     match word.strip_prefix('\'') {
         Some(letters) => Ok(Vec::from_slice(alloc, letters.as_bytes())?),
@@ -82,7 +82,7 @@ fn put_word(alloc: Global, bytes: &mut Vec<u8>, word: &str) -> Result<(), Fail> 
     put_bytes(bytes, &word_bytes(alloc, part)?, times.parse()?)
 }
 
-/// The bytes that words spell, with `*` and a number behind a word that stands there so often.
+/// The bytes that words spell, with `*` and a number after a word that stands there so often.
 pub fn spelled(alloc: Global, words: &str) -> Result<Vec<u8>, Fail> {
     let mut bytes = Vec::new(alloc);
     for word in words.split_whitespace() {
