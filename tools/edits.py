@@ -28,6 +28,8 @@ TYPE = re.compile(r"^(?:pub(?:\([a-z: ]+\))? )?(?:struct|enum) (\w+)", re.M)
 AT_SOURCE = re.compile(r"(?:note: )?(?:\./)?(src/\S+?\.rt):(\d+):\d+: (.*)")
 AT_PROOF = re.compile(r"(?:note: )?(?:\./)?proofs/(\S+)/\w+\.antt:\d+:\d+: (error.*)")
 OF_FUNCTION = re.compile(r"fn (\S+): (not proved|no proof|could not tell)(.*)")
+# what it says of a definition that it refuses
+ILL_TYPED = re.compile(r"\./specs/\S+: error: ")
 UNKNOWN = re.compile(r"has no function `([^`]+)`")
 # A proof that cites what was not proved elsewhere.
 CITES = re.compile(r"has no field|is not in scope|has no `|was not admitted")
@@ -395,7 +397,11 @@ def refusals(edit: Edit, lines: list[str]) -> Iterator[str]:
 
 
 def verdict_alone(edit: Edit, status: int, lines: list[str]) -> Result:
-    """What came of an edit that was tried alone. The prover may also meet a limit of its own at it."""
+    """What came of an edit that was tried alone. The prover may also meet a limit of its own at it. Definitions that are no longer
+    well-typed refuse nothing."""
+    broken = next((it for it in lines if ILL_TYPED.match(it)), "")
+    if broken:
+        return Result(edit, False, broken)
     for line in lines:
         told = OF_FUNCTION.match(line)
         if told and any(f"::{told[1]}".endswith(f"::{it}") for it in edit.functions()):

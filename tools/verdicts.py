@@ -29,6 +29,7 @@ FILE = "verdicts"
 
 # Changed by hand when tools/try-edits judges otherwise than before, so that no older verdict counts.
 RULES = "1"
+RULES_OF_DEFINITIONS = "2"
 
 PARTS = ("src", "specs", "proofs")
 COMMENT = {".rt": "//", ".antt": "--"}
@@ -113,7 +114,8 @@ class Keys:
     def of(self, edit: Edit) -> str:
         crate = self.crates[edit.crate]
         named = [*edit.named, *([f"below {edit.below}"] if edit.below else [])]
-        said = [("rules", [RULES, kit()[1]]), ("edit", [*(it for pair in edit.pairs for it in pair), "refused", *named])]
+        rules = RULES if any(path.endswith(".rt") for path, _old, _new in edit.pairs) else RULES_OF_DEFINITIONS
+        said = [("rules", [rules, kit()[1]]), ("edit", [*(it for pair in edit.pairs for it in pair), "refused", *named])]
         said.append((f"crate {crate.name}", [" ".join(crate.kit), self.sums(crate.name)]))
         for name in sorted(below(self.crates, crate.name)):
             said.append((f"below {name}", [" ".join(self.crates[name].kit), self.faces(name)]))
