@@ -16,6 +16,7 @@ use grain_logic::GrainLogic;
 use grain_storage::GrainStorage;
 use silo_core::{Setup, Silo};
 use silo_event::{Reply, Step};
+use silo_state::KeptParts;
 use std::alloc::{AllocError, Global};
 use std::marker::Model;
 
@@ -27,6 +28,10 @@ const REPLY_WEIGHT: u64 = 64;
 
 /// Bytes that a row, or an active grain, takes in the lists with which a silo opens again, about.
 const LISTED_WEIGHT: u64 = 256;
+
+/// What a call that waits to be delivered counts as there. It is much more than it takes: opening again with many of them makes
+/// everybody wait.
+const SEND_WEIGHT: u64 = 4096;
 
 /// A history of fewer bytes isn't dropped.
 const LEAST_HISTORY: u64 = 16_777_216;
@@ -42,6 +47,17 @@ fn weighed_with(bytes: u64, replies: &[Reply]) -> u64 {
         sum = sum.saturating_add(REPLY_WEIGHT).saturating_add(state);
     }
     sum
+}
+
+/// What that many rows, and what is kept, weigh in the lists with which a silo opens again.
+fn weight_of(rows: u64, kept: &KeptParts) -> u64 {
+    let mut sends: u64 = 0;
+    for account in kept.accounts.iter() {
+        sends = sends.saturating_add(account.sends.len() as u64);
+    }
+    rows.saturating_add(kept.grains.len() as u64)
+        .saturating_mul(LISTED_WEIGHT)
+        .saturating_add(sends.saturating_mul(SEND_WEIGHT))
 }
 
 /// A silo in which nothing waits and nothing is open, unless it stopped for want of memory. It keeps its history, or drops it
@@ -149,8 +165,8 @@ impl<S: GrainStorage, L: GrainLogic> AnsweringSilo<S, L> {
 
     /// Notes that a line of `bytes` bytes was answered. A history that needn't be kept is dropped once its lines, steps
     /// and replies, those to grains too, take about 16 MB, and no less than lists of its rows and of the grains that
-    /// are active: the silo opens again where it is. If memory is refused for that, the history stays until it is 16 MB
-    /// larger.
+    /// are active, and 4 kB for each call that waits to be delivered: the silo opens again where it is. If memory is
+    /// refused for that, the history stays until it is 16 MB larger.
     pub fn note(&mut self, alloc: Global, bytes: usize)
         ensures history { MayDrop self.old.keeps self.old.history self.new.history }
         ensures stopped { self.new.stopped ≡ self.old.stopped }
@@ -170,9 +186,7 @@ impl<S: GrainStorage, L: GrainLogic> AnsweringSilo<S, L> {
         match self.silo.reopen(alloc) {
             Ok(_) => {
                 let rows = self.silo.opening().len() as u64;
-                let grains = self.silo.opening_kept().grains.len() as u64;
-                let list = rows.saturating_add(grains).saturating_mul(LISTED_WEIGHT);
-                self.due = list.max(LEAST_HISTORY);
+                self.due = weight_of(rows, self.silo.opening_kept()).max(LEAST_HISTORY);
                 self.grown = 0;
                 self.weighed = 0;
             }
