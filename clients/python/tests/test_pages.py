@@ -14,6 +14,10 @@ from . import beside
 from .beside import CLIENT, ROOT, SECONDS
 
 
+def heed_interrupts() -> None:
+    signal.signal(signal.SIGINT, signal.SIG_DFL)
+
+
 class Pages(unittest.TestCase):
     def test_the_shell(self) -> None:
         environment = {**os.environ, "SILO": beside.program}
@@ -27,8 +31,10 @@ class Pages(unittest.TestCase):
 
     def test_the_shell_that_is_interrupted(self) -> None:
         environment = {**os.environ, "SILO": beside.program}
-        pipe = subprocess.PIPE
-        with subprocess.Popen([sys.executable, "-m", "silo", "red:2:4"], cwd=CLIENT, env=environment, stdin=pipe, stdout=pipe, stderr=pipe) as shell:
+        words = [sys.executable, "-m", "silo", "red:2:4"]
+        pipes = dict.fromkeys(("stdin", "stdout", "stderr"), subprocess.PIPE)
+        # what runs behind a script may have been started with this signal ignored
+        with subprocess.Popen(words, cwd=CLIENT, env=environment, preexec_fn=heed_interrupts, **pipes) as shell:
             assert shell.stdin is not None and shell.stdout is not None
             shell.stdin.write(b"counter/red:a add by=3\n")
             shell.stdin.flush()
