@@ -31,7 +31,7 @@ const LISTED_WEIGHT: u64 = 256;
 
 /// What a call that waits to be delivered counts as there. It is much more than it takes: opening again with many of them makes
 /// everybody wait.
-const SEND_WEIGHT: u64 = 4096;
+const SEND_WEIGHT: u64 = 16_384;
 
 /// A history of fewer bytes isn't dropped.
 const LEAST_HISTORY: u64 = 16_777_216;
@@ -165,7 +165,7 @@ impl<S: GrainStorage, L: GrainLogic> AnsweringSilo<S, L> {
 
     /// Notes that a line of `bytes` bytes was answered. A history that needn't be kept is dropped once its lines, steps
     /// and replies, those to grains too, take about 16 MB, and no less than lists of its rows and of the grains that
-    /// are active, and 4 kB for each call that waits to be delivered: the silo opens again where it is. If memory is
+    /// are active, and 16 kB for each call that waits to be delivered: the silo opens again where it is. If memory is
     /// refused for that, the history stays until it is 16 MB larger.
     pub fn note(&mut self, alloc: Global, bytes: usize)
         ensures history { MayDrop self.old.keeps self.old.history self.new.history }
