@@ -20,8 +20,9 @@ use silo_state::KeptParts;
 use std::alloc::{AllocError, Global};
 use std::marker::Model;
 
-/// Bytes that a step takes in a history, about.
-const STEP_WEIGHT: u64 = 40;
+/// What a step counts as in a history. It takes some five times that: where a few lines make many calls that wait to be delivered,
+/// opening again soon would make everybody wait.
+const STEP_WEIGHT: u64 = 8;
 
 /// Bytes that a reply takes in a history beside those of its state, about.
 const REPLY_WEIGHT: u64 = 64;
@@ -163,10 +164,10 @@ impl<S: GrainStorage, L: GrainLogic> AnsweringSilo<S, L> {
         self.keeps = false;
     }
 
-    /// Notes that a line of `bytes` bytes was answered. A history that needn't be kept is dropped once its lines, steps
-    /// and replies, those to grains too, take about 16 MB, and no less than lists of its rows and of the grains that
-    /// are active, and 16 kB for each call that waits to be delivered: the silo opens again where it is. If memory is
-    /// refused for that, the history stays until it is 16 MB larger.
+    /// Notes that a line of `bytes` bytes was answered. A history that needn't be kept is dropped once its lines and replies,
+    /// those to grains too, take about 16 MB, where a step counts as 8 bytes, and no less than lists of its rows and of the
+    /// grains that are active, and 16 kB for each call that waits to be delivered: the silo opens again where it is. If
+    /// memory is refused for that, the history stays until it is 16 MB larger.
     pub fn note(&mut self, alloc: Global, bytes: usize)
         ensures history { MayDrop self.old.keeps self.old.history self.new.history }
         ensures stopped { self.new.stopped ≡ self.old.stopped }
