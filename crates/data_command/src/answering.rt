@@ -39,14 +39,14 @@ fn running_cause(fault: LogFault) -> Cause
 }
 
 /// A silo over no rows that answers lines, and needn't keep its history.
-fn letting_silo<L: GrainLogic + Drop>(
+fn dropping_silo<L: GrainLogic + Drop>(
     alloc: Global,
     start: Start<L>,
 ) -> Result<AnsweringSilo<MemoryStorage, L>, AllocError>
     ensures setup { IfOk result (λ s. s.history.setup ≡ setup_of start.tenants start.age start.ages) }
     ensures opened { IfOk result (λ s. s.history.whole ≡ opening s.history.setup) }
     ensures ready { IfOk result (λ s. s.stopped ≡ false) }
-    ensures lets_go { IfOk result (λ s. s.keeps ≡ false) }
+    ensures drops { IfOk result (λ s. s.keeps ≡ false) }
 {
     let mut silo = new_silo(alloc, start)?;
     silo.drop_history();
@@ -172,7 +172,7 @@ pub fn answer_data<L: GrainLogic + Drop, F: DataFiles, R: Read, W: Write>(
         sends: opening.sends,
         folder,
     };
-    let Ok(mut silo) = letting_silo(alloc, opening.start) else {
+    let Ok(mut silo) = dropping_silo(alloc, opening.start) else {
         return Err(DataFault::Failed(Cause::Memory));
     };
     let done = answer_on(alloc, &mut silo, &task, files, input, output);

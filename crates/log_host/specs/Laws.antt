@@ -4,7 +4,7 @@ use Rattle.log_text.specs.Lines.{HasNoBreak, IsPrefixOf}
 use Rattle.log_text.specs.Sums.{own_sums}
 use Rattle.log_text.specs.Batches.{last_sum, log_text}
 use Rattle.log_text.specs.Reading.{recovered}
-use Rattle.log_host.specs.Acts.{Act, Always, Held, MayLeave, held_from}
+use Rattle.log_host.specs.Acts.{Act, Always, Held, MayLeave, does, held_from, synced, told, wrote}
 use Rattle.log_host.specs.Lasting.{IsSettled, Lasts, LastsFrom, Log, answered}
 
 -- what a start makes of bytes that were left: the batches that are read of them, on the disk, and what they answer taken as told
@@ -53,3 +53,15 @@ abbrev pub LastsOn : Type 0
 LastsOn = (log : Log) (h : Held) (old more : List Act) (new : Option (List Act))
     → Always (Lasts log) h more → LastsFrom log (held_from h more) (old ++ more) new
     → LastsFrom log h old new
+
+-- Anything may stand behind what is on the disk. Writing and telling change nothing of what a crash may leave, and once all is on the disk,
+-- a crash leaves all of it.
+pub record CrashLeaves : Type 0 where
+  pub anything : (h : Held) (bytes : List ℕ) → MayLeave h (h.safe ++ bytes)
+  pub writing : (h : Held) (bytes left : List ℕ) → MayLeave h left → MayLeave (does h (wrote bytes)) left
+  pub telling : (h : Held) (bytes left : List ℕ) → MayLeave h left → MayLeave (does h (told bytes)) left
+  pub syncing : (h : Held) (left : List ℕ) → MayLeave (does h synced) left → IsPrefixOf h.file left
+
+-- What lasts at each moment lasts after any of the first acts.
+abbrev pub AtEachMoment : Type 0
+AtEachMoment = (log : Log) (h : Held) (first others : List Act) → Always (Lasts log) h (first ++ others) → Lasts log (held_from h first)

@@ -1,6 +1,19 @@
 //! Laws over the definitions alone. Each is the contract of a function that does nothing.
 
-ghost use Rattle.log_host.specs.Laws.{LastsOn, LivesLast, StartsSettled};
+ghost use Rattle.log_host.specs.Laws.{AtEachMoment, CrashLeaves, LastsOn, LivesLast, StartsSettled};
+
+/// After a crash the log has all that was brought to the disk, followed by anything. Nothing else that a process did
+/// counts.
+#[tactic(auto, using(crate::proofs::Crashes::crash_leaves))]
+pub fn crash_leaves()
+    ensures { CrashLeaves }
+{}
+
+/// What lasts at each moment lasts after any of the first acts.
+#[tactic(auto, using(crate::proofs::Crashes::at_each_moment))]
+pub fn at_each_moment()
+    ensures { AtEachMoment }
+{}
 
 /// Whatever a crash left, the log that a start makes of it is settled.
 #[tactic(auto, using(crate::proofs::Starts::starts_settled))]

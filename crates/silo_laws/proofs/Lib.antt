@@ -9,3 +9,4 @@ pub mod AtOnce
 pub mod Behind
 pub mod AskedSteps
 pub mod Audits
+pub mod Marks

@@ -10,3 +10,4 @@ pub mod AtOnce
 pub mod Behind
 pub mod AskedSteps
 pub mod Audits
+pub mod Marks

@@ -7,6 +7,7 @@ ghost use Rattle.silo_laws.specs.Audits.{ChangedReplyFound, FirstReplyChecked, S
 ghost use Rattle.silo_laws.specs.Behind.{DeliveredBehind, DeliversAtMost};
 ghost use Rattle.silo_laws.specs.Grains.{GrainsAreTold};
 ghost use Rattle.silo_laws.specs.Limits.{LimitsHold};
+ghost use Rattle.silo_laws.specs.Marks.{FailuresMarked};
 ghost use Rattle.silo_laws.specs.Refusals.{RefusedByCode};
 ghost use Rattle.silo_laws.specs.Rows.{ClearingEmpties, PokeIsStored, ReloadReads, StaleStoreEnds, WriteIsStored};
 ghost use Rattle.silo_laws.specs.SecondCall.{SecondCallAnswered};
@@ -107,6 +108,12 @@ pub fn delivered_behind()
 #[tactic(auto, using(crate::proofs::AskedSteps::asked_steps))]
 pub fn asked_steps()
     ensures { AskedSteps }
+{}
+
+/// Of steps with the answers that they may have, those are taken as failed that say so or were answered so.
+#[tactic(auto, using(crate::proofs::Marks::failures_marked))]
+pub fn failures_marked()
+    ensures { FailuresMarked }
 {}
 
 /// An audit finds the first recorded reply that is another than the machine's, by its place counted

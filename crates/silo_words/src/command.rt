@@ -51,7 +51,7 @@ fn ages_option<'a>(alloc: Global) -> Arg<'a>
     ensures rule { rule_of result ≡ ages_rule }
     ensures local { result.global ≡ false }
 {
-    let help = "Ages of their own for up to 64 kinds, each as `--age`";
+    let help = "Other ages for up to 64 kinds, each as `--age`";
     text_option(alloc, "ages", "KIND=MS,..", help)
 }
 
@@ -68,7 +68,7 @@ fn sends_option<'a>(alloc: Global) -> Arg<'a>
     ensures local { result.global ≡ false }
 {
     let help =
-        "How many calls that grains sent are delivered behind a line, 0 to 1000000 [default: 1000]";
+        "How many calls that grains sent are delivered after a line, 0 to 1000000 [default: 1000]";
     text_option(alloc, "sends", "N", help).value_parser(value_parser!(u64).range(0..=1_000_000))
 }
 
@@ -100,7 +100,7 @@ fn explain_option<'a>(alloc: Global) -> Arg<'a>
     ensures rule { rule_of result ≡ explain_rule }
     ensures local { result.global ≡ false }
 {
-    let help = "Tells on standard error which lines made no step, and why";
+    let help = "Prints on standard error which lines made no step, and why";
     flag_option(alloc, "explain-lines", help)
 }
 
@@ -206,14 +206,14 @@ fn serve_command<'a>(alloc: Global) -> Result<Command<'a>, AllocError>
 fn audit_command<'a>(alloc: Global) -> Result<Command<'a>, AllocError>
     ensures { IfOk result (λ c. IsApp audit_app c) }
 {
-    let about = "Tells of each tenant in a journal whether it went as for this tenant alone";
+    let about = "Checks that each tenant of a journal got what it would get alone";
     bare(alloc, "audit", about).arg(path_argument(alloc))
 }
 
 fn migrate_command<'a>(alloc: Global) -> Result<Command<'a>, AllocError>
     ensures { IfOk result (λ c. IsApp migrate_app c) }
 {
-    let about = "Writes the journal of a file in the form of today, on standard output";
+    let about = "Writes the journal of a file in the newest form, on standard output";
     bare(alloc, "migrate", about).arg(path_argument(alloc))
 }
 

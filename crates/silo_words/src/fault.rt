@@ -46,7 +46,7 @@ pub const ANSWER_EXAMPLE: &str = concat!(
 pub const SERVE_EXAMPLE: &str = concat!(
     "\nExit status: 0 after the last reply; 1 if a stream, the journal, memory or the\n",
     "threads failed, or there are too many lines; 2 if the words are refused.\n",
-    "\nExample: a client that two threads serve asks a counter to add 3, and it is told what came of it.\n",
+    "\nExample: a client that two threads serve asks a counter to add 3, with reports on standard error.\n",
     r#"  echo '{"op":"call","from":"red/c1","id":1,"grain":"counter/red:a","method":"add","args":{"by":3}}' |"#,
     "\n  silo serve --workers 2 --explain-lines --summary red:2:4\n"
 );
