@@ -17,6 +17,7 @@ from silo.errors import SiloEnded, SiloTimeout
 from silo.exchange import Exchange, Slot
 from silo.forks import LEFT, leave_in_children
 from silo.latch import Latch
+from silo.still import SECONDS_BETWEEN_CHECKS, Stillness
 
 LOG = logging.getLogger("silo")
 # bytes of one read and, but for a longer line, of one write
@@ -41,6 +42,8 @@ class Carrier(Protocol):
     reading: io.RawIOBase
     # as many bytes, and fewer, are written whole by one call or not at all, also if it is interrupted; 0 if that isn't so
     whole: int
+    # whether its first reply may take long, since it answers a log again before
+    begins_late: bool
 
     def finish(self, in_order: bool) -> Tuple[int, str]:
         """Waits for the end, and gives the status and what the silo told. In order is an end that was asked for, with nothing left unanswered."""
@@ -69,6 +72,7 @@ class Connection:
         self._right = object()
         self._turn.put(self._right)
         self._over, self._called = Latch(), Latch()
+        self._stillness = Stillness(carrier.begins_late)
         self._threads = [
             threading.Thread(target=run, name=f"silo {run.__name__[1:]}", daemon=True) for run in (self._write, self._read, self._call)
         ]
@@ -105,9 +109,15 @@ class Connection:
         self._calls.put(call)
 
     def close(self) -> int:
-        """Ends the input, waits until all is answered and all callbacks were called, and gives the status."""
+        """Ends the input, waits until all is answered and all callbacks were called, and gives the status.
+
+        A silo that says nothing for a minute is killed.
+        """
         self._end_input()
-        self._over.wait()
+        since = time.monotonic()
+        while not self._over.wait(SECONDS_BETWEEN_CHECKS):
+            if self._stillness.is_too_long(since):
+                self.carrier.kill()
         if threading.current_thread() not in self._threads:
             self._called.wait()
         return self.exchange.ended[0] if self.exchange.ended else 0
@@ -198,6 +208,7 @@ class Connection:
                 data = self.carrier.reading.read(MOST_AT_ONCE)
                 if not data:
                     break
+                self._stillness.note()
                 self.exchange.feed(data)
         except ConnectionResetError:
             # a gateway has closed the connection, with lines that it hasn't read

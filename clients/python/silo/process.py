@@ -71,7 +71,8 @@ class Process:
     whole = select.PIPE_BUF
 
     def __init__(self, words: Sequence[str], is_wide: bool = False) -> None:
-        """Runs the words. A wide pipe to it has room for as many lines as it puts on the disk at once."""
+        """Runs the words. A wide pipe to it has room for as many lines as it puts on the disk at once: such a program has data."""
+        self.begins_late = is_wide
         self._told = tempfile.TemporaryFile()
         pipe = subprocess.PIPE
         try:

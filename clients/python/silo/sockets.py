@@ -39,6 +39,9 @@ class Writing(io.FileIO):
 class SocketEnd:
     """A connection to a gateway, which an event loop reads and writes."""
 
+    # its program may have just been started
+    begins_late = True
+
     def __init__(self, carried: socket.socket) -> None:
         self.socket = carried
 

@@ -154,6 +154,14 @@ class Ends(Loop):
         self.assertEqual({type(it) for it in found} - {type(None)}, {SiloEnded})
         await self.ended(silo, -9)
 
+    async def test_of_one_that_reads_on_and_says_nothing(self) -> None:
+        silo = await self.began("red:1:1", program=self.stub("while read(): pass\ntime.sleep(600)"))
+        asked = silo.ask(WEB, "status")
+        with mock.patch("silo.still.MOST_SECONDS_STILL", 0.1):
+            self.assertEqual(await asyncio.wait_for(silo.close(), SECONDS), -9)
+        with self.assertRaises(SiloEnded):
+            await asked
+
     async def test_by_words_that_no_silo_says(self) -> None:
         program = self.stub(SAY_STRANGE)
         for number in range(0, len(STRANGE), 3):

@@ -25,6 +25,7 @@ class SocketCarrier:
     """A silo at the other end of a socket."""
 
     whole = 0
+    begins_late = False
 
     def __init__(self, end: socket.socket) -> None:
         self._socket = end

@@ -155,6 +155,13 @@ class Ends(Case):
             self.assertIsInstance(settled(lambda: self.ask_until_it_ends(silo)), SiloEnded)
         self.assertEqual(silo.close(), -9)
 
+    def test_of_one_that_reads_on_and_says_nothing(self) -> None:
+        silo = self.started("red:1:1", program=self.stub("while read(): pass\ntime.sleep(600)"))
+        asked = silo.ask(WEB, "status")
+        with mock.patch("silo.still.MOST_SECONDS_STILL", 0.1):
+            self.assertEqual(settled(silo.close), -9)
+        self.assertIsInstance(settled(asked.result), SiloEnded)
+
     def ask_until_it_ends(self, silo: Silo) -> None:
         while True:
             silo.ask(WEB, "status")

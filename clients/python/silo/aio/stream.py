@@ -6,6 +6,7 @@ import asyncio
 import contextlib
 import functools
 import socket
+import time
 from typing import Any, Callable, List, Optional, Union, cast
 
 from silo.connection import MOST_SECONDS_DEAF, Carrier
@@ -15,6 +16,7 @@ from silo.forks import LEFT, leave_in_children
 from silo.latch import bounded
 from silo.process import BYTES_OF_READ, read_less
 from silo.sockets import SocketEnd
+from silo.still import SECONDS_BETWEEN_CHECKS, Stillness
 
 # how often it is looked for what wasn't answered in time
 SECONDS_BETWEEN_LOOKS = 0.05
@@ -52,6 +54,7 @@ class Stream(asyncio.Protocol):
         self._room: Optional[asyncio.Future[None]] = None
         self._over: asyncio.Future[None] = self._loop.create_future()
         self._looking = False
+        self._stillness = Stillness(carrier.begins_late)
         self._fault = ""
         leave_in_children(self)
 
@@ -69,12 +72,15 @@ class Stream(asyncio.Protocol):
         self._flush()
 
     async def close(self) -> int:
-        """Ends the input, waits until all is answered, and gives the status."""
+        """Ends the input, waits until all is answered, and gives the status. A silo that says nothing for a minute is killed."""
         self.exchange.closed = True
         self._flush()
         if self._writing is not None:
             self._writing.write_eof()
-        await asyncio.shield(self._over)
+        since = time.monotonic()
+        while not (await asyncio.wait([self._over], timeout=SECONDS_BETWEEN_CHECKS))[0]:
+            if self._stillness.is_too_long(since):
+                self._kill()
         return self.exchange.ended[0] if self.exchange.ended else 0
 
     def leave(self) -> None:
@@ -141,6 +147,7 @@ class Stream(asyncio.Protocol):
         self._reading = transport
 
     def data_received(self, data: bytes) -> None:
+        self._stillness.note()
         try:
             self.exchange.feed(data)
         except Exception as strange:
