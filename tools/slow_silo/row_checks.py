@@ -5,6 +5,7 @@ from __future__ import annotations
 from typing import Optional
 
 from .call_rows import CALL_ROWS
+from .checkpoint_rows import CHECKPOINT_ROWS
 from .data_rows import DATA_CALLS
 from .log_rows import LOG_ROWS
 from .program import run_program
@@ -48,7 +49,7 @@ def main() -> int:
     """Prints each row that differs, and last 'N passed, M failed'."""
     passed = failed = 0
     checks = [(row.name, difference, row) for row in ROWS]
-    checks += [(check.__name__.replace("_", " "), call_difference, check) for check in (*CALL_ROWS, *LOG_ROWS, *DATA_CALLS)]
+    checks += [(check.__name__.replace("_", " "), call_difference, check) for check in (*CALL_ROWS, *LOG_ROWS, *CHECKPOINT_ROWS, *DATA_CALLS)]
     for name, run, row in checks:
         what = run(row)
         if what is None:

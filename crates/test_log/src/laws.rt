@@ -12,6 +12,9 @@ fn the_laws_are_stated() {
     log_text::laws::lost_refused();
     log_text::laws::one_text();
     log_text::laws::spells_plain();
+    checkpoint_text::laws::one_text();
+    log_host::laws::crash_leaves();
+    log_host::laws::at_each_moment();
     log_host::laws::starts_settled();
     log_host::laws::lives_last();
     log_host::laws::lasts_on();

@@ -1,6 +1,8 @@
-//! Tests of logs: their text, batches that are kept before their replies are written, and silos that start again.
+//! Tests of logs and checkpoints: their texts, batches that are kept before their replies are written, and silos that start again.
 #![tactic(auto)]
 
+#[cfg(test)]
+mod checkpoints;
 #[cfg(test)]
 mod commits;
 #[cfg(test)]

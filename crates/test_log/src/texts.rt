@@ -44,7 +44,7 @@ static SECOND: &str = "+{\"op\":\"tick\",\"now\":5}
 static TOLD: &str = "{\"from\":\"red/c1\",\"id\":1,\"ok\":3}\n";
 
 /// Fails and shows both texts, if they differ.
-fn same(found: &[u8], wanted: &str) -> Result<(), Fail> {
+pub fn same(found: &[u8], wanted: &str) -> Result<(), Fail> {
     if found == wanted.as_bytes() {
         return Ok(());
     }
@@ -52,7 +52,7 @@ fn same(found: &[u8], wanted: &str) -> Result<(), Fail> {
 }
 
 /// Fails if it doesn't hold.
-fn holds(what: &str, it: bool) -> Result<(), Fail> {
+pub fn holds(what: &str, it: bool) -> Result<(), Fail> {
     if it {
         return Ok(());
     }

@@ -1,0 +1,38 @@
+-- What a reader answers, by what it read.
+use Rattle.std.proofs.Common.{◌≡◌, ℕ, false, true≢false, List, Some, Err, ap, subst, sym, ◌∙◌}
+use Rattle.std.specs.Prelude.{IsErrAnd, Result}
+use Rattle.std.specs.Str.{IsUtf8}
+use Rattle.std.proofs.lemmas.Option.{none-some, same_Some}
+use Rattle.std.proofs.lemmas.Result.{err_from_is_err_and}
+use Rattle.grain_id.specs.Names.{same_text}
+use Rattle.grain_id.specs.Order.{same_text_decides}
+use Rattle.checkpoint_text.specs.declared.checkpoint.Checkpoint.{Checkpoint as Parts}
+use Rattle.checkpoint_text.specs.declared.fault.CheckpointFault.{CheckpointFault}
+use Rattle.checkpoint_text.specs.declared.fault.CheckpointFault.TheVariants as faults
+use Rattle.checkpoint_text.specs.Answers.{ReadsCheckpoint}
+use Rattle.checkpoint_text.specs.Rules.{IsCheckpoint}
+use Rattle.checkpoint_text.specs.Text.{Checkpoint, checkpoint_text}
+use Rattle.checkpoint_text.specs.inside.Reading.{Misses, body_at, body_of}
+use Rattle.checkpoint_text.proofs.Ascii.{body_utf8}
+use Rattle.checkpoint_text.proofs.Whole.{body_is, read_back}
+
+pub utf8_body : (bytes : List ℕ) (c : Checkpoint) → IsCheckpoint c → bytes ≡ checkpoint_text c → IsUtf8 (body_of bytes)
+utf8_body bytes c is same = subst IsUtf8 (sym (ap body_of same ∙ body_is c)) (body_utf8 c is)
+
+found : (bytes : List ℕ) (c : Checkpoint) → IsCheckpoint c → bytes ≡ checkpoint_text c → body_at (body_of bytes) ≡ Some c
+found bytes c is same = ap (λ b. body_at (body_of b)) same ∙ read_back c is
+
+fails : (bytes : List ℕ) (why : CheckpointFault) → Misses why (body_at (body_of bytes)) → ReadsCheckpoint bytes (Err why)
+fails bytes faults.NoCheckpoint none = λ c is same. none-some c (sym none ∙ found bytes c is same)
+fails bytes faults.Memory none = tt
+
+pub fails_too : (bytes : List ℕ) (r : Result Parts CheckpointFault) (why : CheckpointFault) → IsErrAnd r (λ y. y ≡ why) → Misses why (body_at (body_of bytes)) → ReadsCheckpoint bytes r
+fails_too bytes r why is none =
+    let p = err_from_is_err_and r is in
+    subst (ReadsCheckpoint bytes) (sym (p.1 ∙ ap Err p.2)) (fails bytes why none)
+
+-- another text than that of what was read is the text of nothing
+pub other_text : (bytes text : List ℕ) (d : Checkpoint) → body_at (body_of bytes) ≡ Some d → text ≡ checkpoint_text d → same_text text bytes ≡ false → (c : Checkpoint) → IsCheckpoint c → bytes ≡ checkpoint_text c → ⊥
+other_text bytes text d read is differs c keeps same =
+    let one : d ≡ c = same_Some d c (sym read ∙ found bytes c keeps same) in
+    true≢false (sym ((same_text_decides text bytes).1 (is ∙ ap checkpoint_text one ∙ sym same)) ∙ differs)

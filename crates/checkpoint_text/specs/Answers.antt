@@ -1,0 +1,32 @@
+-- What reading a checkpoint answers.
+use Rattle.std.specs.Prelude.{◌≡◌, List, ℕ, map, Result, Ok, Err}
+use Rattle.grain_id.specs.Names.{Grain}
+use Rattle.tenant_accounts.specs.Parts.{kept_in}
+use Rattle.silo_state.specs.KeptParts.{kept_grain_in}
+use Rattle.silo_state.specs.declared.parts.GrainParts.{GrainParts}
+use Rattle.silo_model.specs.Opening.{KeptGrain}
+use Rattle.checkpoint_text.specs.declared.checkpoint.Checkpoint.{Checkpoint as Parts}
+use Rattle.checkpoint_text.specs.declared.fault.CheckpointFault.{CheckpointFault}
+use Rattle.checkpoint_text.specs.declared.fault.CheckpointFault.TheVariants as faults
+use Rattle.checkpoint_text.specs.Rules.{IsCheckpoint}
+use Rattle.checkpoint_text.specs.Text.{Checkpoint, checkpoint_text}
+
+abbrev pub grain_in : Grain × GrainParts → Grain × KeptGrain
+grain_in g = (g.0, kept_grain_in g.1)
+
+-- a checkpoint, as it is read
+abbrev pub checkpoint_in : Parts → Checkpoint
+checkpoint_in c = record {
+  follows = c.follows.now;
+  sends = c.sends;
+  clock = c.clock;
+  accounts = map kept_in c.accounts.items;
+  grains = map grain_in c.grains.items;
+  journal = c.journal.now;
+}
+
+-- The bytes are the text of the checkpoint that is answered; that they are none is answered only if they are.
+abbrev pub ReadsCheckpoint : List ℕ → Result Parts CheckpointFault → Type 0
+ReadsCheckpoint bytes (Ok c) = bytes ≡ checkpoint_text (checkpoint_in c)
+ReadsCheckpoint bytes (Err faults.NoCheckpoint) = (c : Checkpoint) → IsCheckpoint c → bytes ≡ checkpoint_text c → ⊥
+ReadsCheckpoint bytes (Err faults.Memory) = Unit {0}

@@ -1,0 +1,4 @@
+pub mod Text
+pub mod Rules
+pub mod Answers
+pub mod inside
