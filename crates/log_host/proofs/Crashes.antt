@@ -1,5 +1,5 @@
 -- What a crash may leave, and what holds at each moment.
-use Rattle.std.proofs.Common.{List, [], ◌∷◌, ◌++◌, refl, ℕ}
+use Rattle.std.proofs.Common.{List, [], ◌∷◌, ◌++◌, refl}
 use Rattle.log_host.specs.Acts.{Act, Always, Held, does, held_from}
 use Rattle.log_host.specs.Lasting.{Lasts}
 use Rattle.log_host.specs.Laws.{AtEachMoment, CrashLeaves}

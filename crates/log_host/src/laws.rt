@@ -10,7 +10,6 @@ pub fn crash_leaves()
 {}
 
 /// What lasts at each moment lasts after any of the first acts.
-#[tactic(auto, using(crate::proofs::Crashes::at_each_moment))]
 pub fn at_each_moment()
     ensures { AtEachMoment }
 {}
