@@ -1,5 +1,5 @@
 -- What a reader answers, by what it read.
-use Rattle.std.proofs.Common.{◌≡◌, ℕ, false, true≢false, List, Some, Err, ap, subst, sym, ◌∙◌}
+use Rattle.std.proofs.Common.{◌≡◌, ℕ, true, false, true≢false, List, Some, Err, ap, subst, sym, ◌∙◌}
 use Rattle.std.specs.Prelude.{IsErrAnd, Result}
 use Rattle.std.specs.Str.{IsUtf8}
 use Rattle.std.proofs.lemmas.Option.{none-some, same_Some}
@@ -31,8 +31,17 @@ fails_too bytes r why is none =
     let p = err_from_is_err_and r is in
     subst (ReadsCheckpoint bytes) (sym (p.1 ∙ ap Err p.2)) (fails bytes why none)
 
+-- what was read is the checkpoint whose text the bytes are
+same_one : (bytes : List ℕ) (d : Checkpoint) → body_at (body_of bytes) ≡ Some d → (c : Checkpoint) → IsCheckpoint c → bytes ≡ checkpoint_text c → d ≡ c
+same_one bytes d read c keeps same = same_Some d c (sym read ∙ found bytes c keeps same)
+
+-- it is, if its text is the same
+pub fits : (bytes text : List ℕ) (d : Checkpoint) → body_at (body_of bytes) ≡ Some d → text ≡ checkpoint_text d → same_text text bytes ≡ true
+    → (bytes ≡ checkpoint_text d) × ((c : Checkpoint) → IsCheckpoint c → bytes ≡ checkpoint_text c → d ≡ c)
+fits bytes text d read is same = (sym ((same_text_decides text bytes).0 same) ∙ is, same_one bytes d read)
+
 -- another text than that of what was read is the text of nothing
 pub other_text : (bytes text : List ℕ) (d : Checkpoint) → body_at (body_of bytes) ≡ Some d → text ≡ checkpoint_text d → same_text text bytes ≡ false → (c : Checkpoint) → IsCheckpoint c → bytes ≡ checkpoint_text c → ⊥
 other_text bytes text d read is differs c keeps same =
-    let one : d ≡ c = same_Some d c (sym read ∙ found bytes c keeps same) in
+    let one : d ≡ c = same_one bytes d read c keeps same in
     true≢false (sym ((same_text_decides text bytes).1 (is ∙ ap checkpoint_text one ∙ sym same)) ∙ differs)

@@ -25,8 +25,11 @@ checkpoint_in c = record {
   journal = c.journal.now;
 }
 
--- The bytes are the text of the checkpoint that is answered; that they are none is answered only if they are.
+-- The bytes are the text of the checkpoint that is answered, and of no other that may stand in one; that they are none is answered only
+-- if they are.
 abbrev pub ReadsCheckpoint : List ℕ → Result Parts CheckpointFault → Type 0
-ReadsCheckpoint bytes (Ok c) = bytes ≡ checkpoint_text (checkpoint_in c)
+ReadsCheckpoint bytes (Ok p) =
+    (bytes ≡ checkpoint_text (checkpoint_in p))
+    × ((c : Checkpoint) → IsCheckpoint c → bytes ≡ checkpoint_text c → checkpoint_in p ≡ c)
 ReadsCheckpoint bytes (Err faults.NoCheckpoint) = (c : Checkpoint) → IsCheckpoint c → bytes ≡ checkpoint_text c → ⊥
 ReadsCheckpoint bytes (Err faults.Memory) = Unit {0}

@@ -41,7 +41,7 @@ moment_at word bytes = do
   number ← number_of line.0
   Some (number, line.1)
 
--- so many, one behind the other
+-- as many, one behind the other
 abbrev pub times : {A : Type 0} → (List ℕ → Option (A × List ℕ)) → ℕ → List ℕ → Option (List A × List ℕ)
 times read zero bytes = Some ([], bytes)
 times read (suc n) bytes = do
