@@ -6,3 +6,4 @@ pub mod Takes
 pub mod Senders
 pub mod Numbers
 pub mod KeptParts
+pub mod KeptAccounts

@@ -12,6 +12,7 @@ use std::marker::Model;
 use tenant_gate::Limits;
 
 mod index;
+mod resuming;
 mod sends;
 
 /// A call that a grain sent, and that is not yet delivered.
@@ -20,6 +21,19 @@ pub struct Sent {
     pub source: GrainId,
     pub target: GrainId,
     pub message: Message,
+}
+
+impl Sent {
+    /// A copy of it.
+    pub(crate) fn copied(&self) -> Result<Sent, AllocError>
+        ensures { IfOk result (λ copy. send_of copy ≡ send_of self.now) }
+    {
+        Ok(Sent {
+            source: self.source.clone()?,
+            target: self.target.clone()?,
+            message: self.message.clone()?,
+        })
+    }
 }
 
 /// What is kept of a known tenant: its limits, how many requests of it were accepted, and what its

@@ -11,6 +11,7 @@
 mod account;
 mod accounts;
 mod parts;
+mod resuming;
 
 pub use account::{Account, Sent};
 pub use accounts::{Accounts, LAST_NUMBER};

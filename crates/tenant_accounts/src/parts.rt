@@ -26,11 +26,7 @@ impl Account {
     {
         let mut calls = Vec::new(alloc);
         for (_, sent) in self.sends.iter() {
-            calls.push(Sent {
-                source: sent.source.clone()?,
-                target: sent.target.clone()?,
-                message: sent.message.clone()?,
-            })?;
+            calls.push(sent.copied()?)?;
         }
         Ok(calls)
     }
