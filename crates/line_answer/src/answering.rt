@@ -20,6 +20,8 @@ use silo_state::KeptParts;
 use std::alloc::{AllocError, Global};
 use std::marker::Model;
 
+mod resumed;
+
 /// What a step counts as in a history. It takes some five times that: where a few lines make many calls that wait to be delivered,
 /// opening again soon would make everybody wait.
 const STEP_WEIGHT: u64 = 8;

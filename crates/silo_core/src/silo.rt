@@ -20,13 +20,14 @@ use grain_logic::GrainLogic;
 use grain_storage::{GrainStorage, Row};
 use idle_collector::AgeTable;
 use silo_event::{Answer, Reply, Step};
-use silo_state::{KeptParts, SiloState};
+use silo_state::{KeptParts, SiloState, StateSetup};
 use std::alloc::{AllocError, Global};
 use std::marker::Model;
 use tenant_gate::{Age, TenantTable};
 
 mod at_once;
 mod reopen;
+mod resumed;
 mod run;
 mod steps;
 mod todo;
@@ -114,7 +115,15 @@ impl<S: GrainStorage + Drop, L: GrainLogic + Drop> Silo<S, L> {
         let opening = storage.list(alloc)?;
         let opening_failures = storage.failures();
         let kinds = ages.clone()?;
-        let state = SiloState::new(alloc, tenants.list(), age, kinds, storage, logic, seed)?;
+        let begun = StateSetup {
+            tenants: tenants.list(),
+            age,
+            ages: kinds,
+            storage,
+            logic,
+            seed,
+        };
+        let state = SiloState::new(alloc, begun)?;
         Ok(Silo {
             tenants,
             age,

@@ -48,7 +48,7 @@ absent_kept entries g none = get-mapped grain_cmp_total grain_cmp_exact kept_gra
 
 -- what is kept of one grain more
 pub grain_put : (old new : BTreeMap Grain GrainParts) (g : Grain) (parts : GrainParts) → Updates grain_cmp old new g (Some parts)
-    → grains_in new ≡ map.insert (grains_in old) g (kept_grain_in parts)
+    → grains_in new.entries ≡ map.insert (grains_in old.entries) g (kept_grain_in parts)
 grain_put old new g parts updates =
     let keys = keys_by_order grain_cmp_total grain_cmp_exact in
     seen-insert keys kept_grain_in old.entries new.entries g parts (λ q. updates.0 q)
@@ -93,7 +93,7 @@ pub none_within : {X : Type 0} (xs : List X) (i : ℕ) → i < length xs → sli
 none_within xs i within none = ⊎_elim (λ there. none-some there.0 (sym none ∙ there.2)) (λ past. absurd (omega (arith, within, past.0))) (slice_get_cases xs i).1
 
 -- none yet
-pub part_none : (all : FinMap grain_cmp KeptGrain) (grains : BTreeMap Grain GrainParts) → grains.entries ≡ [] → IsPart all (grains_in grains)
+pub part_none : (all : FinMap grain_cmp KeptGrain) (grains : BTreeMap Grain GrainParts) → grains.entries ≡ [] → IsPart all (grains_in grains.entries)
 part_none all grains none q v found =
     absurd (none-some v (sym (map.get-from_entries grain_cmp_total (with_values kept_grain_in grains.entries) q ∙ ap (λ es. map.find grain_cmp q (with_values kept_grain_in es)) none) ∙ found))
 

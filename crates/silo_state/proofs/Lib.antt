@@ -21,3 +21,4 @@ pub mod Walks
 pub mod Pendings
 pub mod KeptGrains
 pub mod NothingKept
+pub mod Resumed

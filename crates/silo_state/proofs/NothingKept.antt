@@ -26,15 +26,15 @@ module _ {K X Y : Type 0} {R : K → K → Ordering} (total : IsTotalOrder R) (e
       ∙ ap (λ r. cond (is_eq r) (Some e.1) (find R e.0 (map f ys))) (tied_itself total e.0)))
 
 module _ (parts : KeptParts) where
-  pub nothing_from : parts.clock ≡ 0 → length parts.accounts.items ≡ 0 → length parts.grains.entries ≡ 0 → kept_in parts ≡ nothing_kept
+  pub nothing_from : parts.clock ≡ 0 → length parts.accounts.items ≡ 0 → length parts.grains.items ≡ 0 → kept_in parts ≡ nothing_kept
   nothing_from clock accounts grains = λ i. record {
     clock = clock i;
     accounts = none_made text_cmp_total text_cmp_exact account_in parts.accounts.items accounts i;
-    grains = none_made grain_cmp_total grain_cmp_exact (λ e. (e.0, kept_grain_in e.1)) parts.grains.entries grains i;
+    grains = none_made grain_cmp_total grain_cmp_exact (λ e. (e.0, kept_grain_in e.1)) parts.grains.items grains i;
   }
 
   pub no_accounts : kept_in parts ≡ nothing_kept → length parts.accounts.items ≡ 0
   no_accounts is = of_none text_cmp_total text_cmp_exact account_in parts.accounts.items (ap (λ (k : Kept). k.accounts) is)
 
-  pub no_grains : kept_in parts ≡ nothing_kept → length parts.grains.entries ≡ 0
-  no_grains is = of_none grain_cmp_total grain_cmp_exact (λ e. (e.0, kept_grain_in e.1)) parts.grains.entries (ap (λ (k : Kept). k.grains) is)
+  pub no_grains : kept_in parts ≡ nothing_kept → length parts.grains.items ≡ 0
+  no_grains is = of_none grain_cmp_total grain_cmp_exact (λ e. (e.0, kept_grain_in e.1)) parts.grains.items (ap (λ (k : Kept). k.grains) is)

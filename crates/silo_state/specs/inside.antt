@@ -7,6 +7,7 @@ pub mod Held
 pub mod Notes
 pub mod Overwrites
 pub mod Requests
+pub mod Resuming
 pub mod Sends
 pub mod Storing
 pub mod Sweeps

@@ -22,6 +22,7 @@ mod accept;
 mod close;
 mod idle;
 mod kept;
+mod resumed;
 mod sweep;
 mod walk;
 

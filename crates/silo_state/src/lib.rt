@@ -26,4 +26,4 @@ mod version;
 
 pub use change::PossibleStep;
 pub use parts::{GrainParts, KeptParts};
-pub use state::SiloState;
+pub use state::{SiloState, StateSetup};

@@ -13,7 +13,6 @@ use grain_id::GrainId;
 use request_codec::StateBytes;
 use silo_event::Moment;
 use std::alloc::{AllocError, Global};
-use std::collections::BTreeMap;
 use tenant_accounts::AccountParts;
 
 /// What is kept of a grain that is active and idle: its state, the version of the row on which it stands, when it was
@@ -31,7 +30,7 @@ pub struct GrainParts {
 pub struct KeptParts {
     pub clock: Moment,
     pub accounts: Vec<AccountParts>,
-    pub grains: BTreeMap<GrainId, GrainParts>,
+    pub grains: Vec<(GrainId, GrainParts)>,
 }
 
 impl KeptParts {
@@ -42,7 +41,7 @@ impl KeptParts {
         KeptParts {
             clock: beginning(),
             accounts: Vec::new(alloc),
-            grains: BTreeMap::new(alloc),
+            grains: Vec::new(alloc),
         }
     }
 
@@ -56,7 +55,7 @@ impl KeptParts {
         if !self.accounts.as_slice().is_empty() {
             return false;
         }
-        self.grains.is_empty()
+        self.grains.as_slice().is_empty()
     }
 }
 

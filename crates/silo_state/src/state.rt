@@ -20,11 +20,25 @@ mod call;
 mod clock;
 mod entry;
 mod kept;
+mod resumed;
 mod send;
 mod step;
 mod store;
 mod turn;
 mod work;
+
+/// What a silo's state is opened with. These tenants are known, with these limits; of a tenant that stands twice the first are its
+/// own. A grain of a kind that has no age in the table has the age beside it. The rows are those of the storage. Grains are found by
+/// hashes from the seed, on which nothing that is shown depends.
+#[derive(Drop)]
+pub struct StateSetup<'a, S: GrainStorage, L: GrainLogic> {
+    pub tenants: &'a [(Tenant, Limits)],
+    pub age: Age,
+    pub ages: AgeTable,
+    pub storage: S,
+    pub logic: L,
+    pub seed: HashSeed,
+}
 
 /// All tenants' accounts, activations and rows, and the replies in the order in which they were made.
 #[derive(Drop)]
@@ -61,28 +75,28 @@ pub(crate) fn beginning() -> Moment
 }
 
 impl<S: GrainStorage + Drop, L: GrainLogic + Drop> SiloState<S, L> {
-    /// Nothing is asked yet, and nothing answered. These tenants are known, with these limits; of a tenant
-    /// that stands twice the first are its own. A grain of a kind that has no age in the table has the age
-    /// beside it. The rows are those of the storage. Grains are found by hashes from the seed, on which nothing that is shown
-    /// depends.
+    /// Nothing is asked yet, and nothing answered.
     ///
     /// # Errors
     ///
     /// Out of memory.
     pub fn new(
         alloc: Global,
-        tenants: &[(Tenant, Limits)],
-        age: Age,
-        ages: AgeTable,
-        storage: S,
-        logic: L,
-        seed: HashSeed,
+        setup: StateSetup<'_, S, L>,
     ) -> Result<SiloState<S, L>, AllocError>
         ensures { IfOk result (λ b. b ≡ record {
-          whole = opening (new_setup tenants.now age ages (S.rows storage));
-          failures = S.failed storage;
+          whole = opening (new_setup setup.entry.tenants.now setup.entry.age setup.entry.ages (S.rows setup.entry.storage));
+          failures = S.failed setup.entry.storage;
         }) }
     {
+        let StateSetup {
+            tenants,
+            age,
+            ages,
+            storage,
+            logic,
+            seed,
+        } = setup;
         Ok(SiloState {
             accounts: Accounts::new(alloc, tenants)?,
             activations: Activations::new(alloc, beginning(), age, ages, seed),

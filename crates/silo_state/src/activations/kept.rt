@@ -34,14 +34,14 @@ impl<L: GrainLogic> Activations<L> {
         true
     }
 
-    /// What is kept of each, where all are idle. It walks over all activations.
+    /// What is kept of each, by its grain, where all are idle. It walks over all activations.
     ///
     /// # Errors
     ///
     /// Out of memory.
-    pub fn kept(&self, alloc: Global) -> Result<BTreeMap<GrainId, GrainParts>, AllocError>
+    fn kept_by_grain(&self, alloc: Global) -> Result<BTreeMap<GrainId, GrainParts>, AllocError>
         requires { AllIdle self.now.entries }
-        ensures { IfOk result (λ grains. grains_in grains ≡ map_values kept_grain self.now.entries) }
+        ensures { IfOk result (λ grains. grains_in grains.entries ≡ map_values kept_grain self.now.entries) }
     {
         let mut grains = BTreeMap::new(alloc);
         'places: for place in 0..self.directory.len() {
@@ -52,6 +52,33 @@ impl<L: GrainLogic> Activations<L> {
         }
         Ok(grains)
     }
+
+    /// What is kept of each, where all are idle, grains ascending. It walks over all activations.
+    ///
+    /// # Errors
+    ///
+    /// Out of memory.
+    pub fn kept(&self, alloc: Global) -> Result<Vec<(GrainId, GrainParts)>, AllocError>
+        requires { AllIdle self.now.entries }
+        ensures { IfOk result (λ grains. grains_in grains.items ≡ map_values kept_grain self.now.entries) }
+    {
+        let grains = self.kept_by_grain(alloc)?;
+        listed(alloc, grains)
+    }
+}
+
+/// The entries of the map, in its order.
+fn listed(
+    alloc: Global,
+    grains: BTreeMap<GrainId, GrainParts>,
+) -> Result<Vec<(GrainId, GrainParts)>, AllocError>
+    ensures { IfOk result (λ list. list.items ≡ grains.entries) }
+{
+    let mut list = Vec::with_capacity(alloc, grains.len())?;
+    for entry in grains {
+        list.push(entry)?;
+    }
+    Ok(list)
 }
 
 /// Puts what is kept of an idle activation among the others.
@@ -61,7 +88,8 @@ fn put_grain(
     activation: &Activation,
 ) -> Result<(), AllocError>
     requires { is_idle (entry_of activation.now) ≡ true }
-    ensures { OnOk result (grains_in grains.new ≡ map.insert (grains_in grains.old) grain.now (kept_grain (entry_of activation.now))) }
+    ensures { OnOk result (grains_in grains.new.entries
+        ≡ map.insert (grains_in grains.old.entries) grain.now (kept_grain (entry_of activation.now))) }
 {
     let parts = parts_of(activation)?;
     let key = grain.clone()?;

@@ -8,4 +8,4 @@ pub returns : goal.returns
 returns c =
     let old = c.args.grains.now in
     grain_put old c.insert.new.self c.in_ok-key.key c.in_ok-parts.parts c.in_ok-insert.ensures.updates
-    ∙ (λ i. map.insert (grains_in old) (c.in_ok-key.ensures.cases i) (c.in_ok-parts.ensures i))
+    ∙ (λ i. map.insert (grains_in old.entries) (c.in_ok-key.ensures.cases i) (c.in_ok-parts.ensures i))

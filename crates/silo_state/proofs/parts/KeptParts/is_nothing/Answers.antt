@@ -12,6 +12,6 @@ returns-then-not-is_empty c = (
 pub returns : goal.returns
 returns c = (
   (λ told. nothing_from c.args.self.now (sym c.get.ensures.value ∙ c.if-get-ne0.false)
-      (sym (ap length c.as_slice.ensures.value) ∙ eqb-true (length c.as_slice.result.now) 0 (sym c.if-not-is_empty.ensures)) (c.is_empty-2.ensures.0 told)),
-  (λ is. c.is_empty-2.ensures.1 (no_grains c.args.self.now is)),
+      (sym (ap length c.as_slice.ensures.value) ∙ eqb-true (length c.as_slice.result.now) 0 (sym c.if-not-is_empty.ensures)) (sym (ap length c.as_slice-2.ensures.value) ∙ eqb-true (length c.as_slice-2.result.now) 0 (sym c.is_empty-2.ensures ∙ told))),
+  (λ is. c.is_empty-2.ensures ∙ eq-eqb (length c.as_slice-2.result.now) 0 (ap length c.as_slice-2.ensures.value ∙ no_grains c.args.self.now is)),
 )
