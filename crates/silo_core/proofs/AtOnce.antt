@@ -1,5 +1,5 @@
 -- Three steps in one: what a silo's state makes of them is what the silo does.
-use Rattle.std.proofs.Common.{◌≡◌, ℕ, ◌+◌, List, [], ◌∷◌, ◌++◌, refl, ap, sym, ◌∙◌, subst, arith}
+use Rattle.std.proofs.Common.{◌≡◌, ℕ, ◌+◌, List, [], ◌∷◌, ◌++◌, refl, sym, ◌∙◌, subst, arith}
 use Rattle.std.specs.Prelude.{Ok}
 use Rattle.grain_id.specs.Names.{Grain}
 use Rattle.silo_event.specs.declared.step.Step.{Step}

@@ -1,6 +1,6 @@
 -- A silo is quiet exactly if each grain is settled and nothing is left to deliver.
 use Rattle.std.proofs.Common.{◌≡◌, ℕ, ◌+◌, Bool, true, false, List, [], length, Option, Some, None, Bor, refl, ap, sym, ◌∙◌, arith, true≢false}
-use Rattle.std.specs.Prelude.{◌==◌, ◌&&◌, ◌↔◌, not, is_some, IfNone, IfSome, IsTrue}
+use Rattle.std.specs.Prelude.{◌==◌, ◌↔◌, not, is_some, IfNone, IfSome, IsTrue}
 use Rattle.std.specs.FinMap as map
 use Rattle.std.proofs.lemmas.List.{length-append, length-map}
 use Rattle.std.proofs.lemmas.Bool.{and_parts, and_from, eqb-true, eq-eqb}

@@ -1,7 +1,6 @@
 -- A silo that opens again where it is, and its segments.
 use Rattle.std.proofs.Common.{◌≡◌, List, [], ◌∷◌, ◌++◌, Some, ap, sym, ◌∙◌, subst}
 use Rattle.std.proofs.lemmas.List.{append_assoc}
-use Rattle.silo_event.specs.declared.reply.Reply.{Reply}
 use Rattle.silo_event.specs.declared.step.Step.{Step}
 use Rattle.grain_logic.specs.Logic.{Logic}
 use Rattle.silo_model.specs.Collected.{AllIdle}
@@ -11,7 +10,7 @@ use Rattle.silo_model.specs.Segments.{resumed, told_before, untold}
 use Rattle.silo_model.specs.Whole.{Whole}
 use Rattle.silo_model.proofs.Segments.{resumes_as_it_was, segments_lead}
 use Rattle.silo_core.specs.History.{History}
-use Rattle.silo_core.specs.Reopening.{AreSegments, NothingIsLost, ReopeningAddsASegment, Reopens, Stood, replies_in, steps_in}
+use Rattle.silo_core.specs.Reopening.{NothingIsLost, ReopeningAddsASegment, Reopens, Stood, replies_in, steps_in}
 
 -- no step leads from what it opens with to what it shows
 pub resumed_leads : (logic : Logic) (setup : Setup) (journal : List Step) (w : Whole) → LeadsTo logic setup journal w → AllIdle w.entries

@@ -1,13 +1,12 @@
 -- What is to do in a silo, by walks over all of its grains and all of its accounts.
-use Rattle.std.proofs.Common.{◌≡◌, ℕ, Bool, true, false, cond, List, [], ◌∷◌, Option, Some, None, refl, ap, sym, ◌∙◌, true≢false}
-use Rattle.std.specs.Prelude.{not, is_some, option_map}
+use Rattle.std.proofs.Common.{◌≡◌, ℕ, true, cond, List, [], ◌∷◌, Option, Some, None, refl, ap, sym, ◌∙◌, true≢false}
+use Rattle.std.specs.Prelude.{is_some, option_map}
 use Rattle.std.specs.FinMap as map
 use Rattle.std.proofs.lemmas.Option.{same_Some, none-some}
 use Rattle.std.proofs.lemmas.Bool.{not-true}
 use Rattle.grain_id.specs.Names.{Grain}
 use Rattle.grain_id.proofs.Order.{grain_eq_decides}
 use Rattle.grain_logic.specs.Logic.{Logic}
-use Rattle.silo_event.specs.declared.step.Step.{Step}
 use Rattle.silo_event.specs.declared.step.Step.TheVariants.{Activate, Load, Begin, Deliver}
 use Rattle.silo_model.specs.Machine.{Account, Send}
 use Rattle.silo_model.specs.Pending.{sends_of}

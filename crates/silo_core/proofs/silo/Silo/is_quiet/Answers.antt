@@ -1,4 +1,4 @@
-use Rattle.std.proofs.Common.{ap, sym, ◌∙◌, subst, true≢false}
+use Rattle.std.proofs.Common.{sym, ◌∙◌, subst, true≢false}
 use Rattle.std.specs.Prelude.{◌↔◌, IsTrue}
 use Rattle.silo_model.specs.Pending.{AllQuiet}
 use Rattle.silo_core.specs.History.{History}

@@ -8,7 +8,6 @@ use Rattle.silo_model.specs.Whole.{Whole}
 use Rattle.silo_state.specs.KeptParts.{kept_in}
 use Rattle.silo_state.specs.inside.Held.{Held}
 use Rattle.silo_core.specs.History.{History}
-use Rattle.silo_core.specs.Reopening.{Reopens}
 use Rattle.silo_core.specs.inside.Shown.{setup_of}
 use Rattle.silo_core.proofs.Opened.{are_listed, listed}
 use Rattle.silo_core.proofs.Reopened.{leads_as, resumed_leads}

@@ -25,7 +25,7 @@ module _ (g : given.Over) (c : goal.After-new g) where
 
   opens : c.in-Some.state.whole ≡ opening opened
   opens =
-      ap (λ (h : Held). h.whole) (rw c.in-Some.is at c.in_ok-resumed.ensures.resumed)
+      ap (λ (h : Held). h.whole) (rw c.in-Some.is at c.in_ok-state.ensures.resumed)
       ∙ (λ i. opening (record {
         tenants = c.list-2.ensures.list i;
         age = c.args.setup.age;
