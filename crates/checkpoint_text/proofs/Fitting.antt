@@ -6,13 +6,15 @@ use Rattle.std.proofs.lemmas.Option.{none-some, same_Some}
 use Rattle.std.proofs.lemmas.Result.{err_from_is_err_and}
 use Rattle.grain_id.specs.Names.{same_text}
 use Rattle.grain_id.specs.Order.{same_text_decides}
+use Rattle.journal_text.specs.declared.fault.LineFault.{LineFault}
+use Rattle.journal_text.specs.declared.fault.LineFault.TheVariants as faults
+use Rattle.journal_text.specs.inside.Answers.{Misses}
 use Rattle.checkpoint_text.specs.declared.checkpoint.Checkpoint.{Checkpoint as Parts}
 use Rattle.checkpoint_text.specs.declared.fault.CheckpointFault.{CheckpointFault}
-use Rattle.checkpoint_text.specs.declared.fault.CheckpointFault.TheVariants as faults
 use Rattle.checkpoint_text.specs.Answers.{ReadsCheckpoint}
 use Rattle.checkpoint_text.specs.Rules.{IsCheckpoint}
 use Rattle.checkpoint_text.specs.Text.{Checkpoint, checkpoint_text}
-use Rattle.checkpoint_text.specs.inside.Reading.{Misses, body_at, body_of}
+use Rattle.checkpoint_text.specs.inside.Reading.{body_at, body_of, fault_of_line}
 use Rattle.checkpoint_text.proofs.Ascii.{body_utf8}
 use Rattle.checkpoint_text.proofs.Whole.{body_is, read_back}
 
@@ -22,11 +24,11 @@ utf8_body bytes c is same = subst IsUtf8 (sym (ap body_of same ∙ body_is c)) (
 found : (bytes : List ℕ) (c : Checkpoint) → IsCheckpoint c → bytes ≡ checkpoint_text c → body_at (body_of bytes) ≡ Some c
 found bytes c is same = ap (λ b. body_at (body_of b)) same ∙ read_back c is
 
-fails : (bytes : List ℕ) (why : CheckpointFault) → Misses why (body_at (body_of bytes)) → ReadsCheckpoint bytes (Err why)
-fails bytes faults.NoCheckpoint none = λ c is same. none-some c (sym none ∙ found bytes c is same)
+fails : (bytes : List ℕ) (why : LineFault) → Misses why (body_at (body_of bytes)) → ReadsCheckpoint bytes (Err (fault_of_line why))
+fails bytes faults.NoForm none = λ c is same. none-some c (sym none ∙ found bytes c is same)
 fails bytes faults.Memory none = tt
 
-pub fails_too : (bytes : List ℕ) (r : Result Parts CheckpointFault) (why : CheckpointFault) → IsErrAnd r (λ y. y ≡ why) → Misses why (body_at (body_of bytes)) → ReadsCheckpoint bytes r
+pub fails_too : (bytes : List ℕ) (r : Result Parts CheckpointFault) (why : LineFault) → IsErrAnd r (λ y. y ≡ fault_of_line why) → Misses why (body_at (body_of bytes)) → ReadsCheckpoint bytes r
 fails_too bytes r why is none =
     let p = err_from_is_err_and r is in
     subst (ReadsCheckpoint bytes) (sym (p.1 ∙ ap Err p.2)) (fails bytes why none)

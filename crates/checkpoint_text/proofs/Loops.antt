@@ -3,16 +3,17 @@ use Rattle.std.proofs.Common.{◌≡◌, ℕ, suc, List, [], ◌∷◌, ◌++◌
 use Rattle.std.specs.Prelude.{IsErrAnd, Result, map}
 use Rattle.std.proofs.lemmas.Result.{err_from_is_err_and}
 use Rattle.std.proofs.lemmas.List.{map-append}
-use Rattle.checkpoint_text.specs.declared.fault.CheckpointFault.{CheckpointFault}
-use Rattle.checkpoint_text.specs.declared.fault.CheckpointFault.TheVariants as faults
-use Rattle.checkpoint_text.specs.inside.Reading.{Misses, Reads, times}
+use Rattle.journal_text.specs.declared.fault.LineFault.{LineFault}
+use Rattle.journal_text.specs.declared.fault.LineFault.TheVariants as faults
+use Rattle.journal_text.specs.inside.Answers.{Misses, Reads}
+use Rattle.checkpoint_text.specs.inside.Reading.{times}
 use Rattle.checkpoint_text.proofs.Times.{Goes, goes_more, goes_out, onto}
 
 module _ {A : Type 0} (read : List ℕ → Option (A × List ℕ)) where
   -- if one of the list isn't read, nothing is
-  pub loop_fails : (count left more : ℕ) (bytes rest : List ℕ) (xs : List A) (why : CheckpointFault)
+  pub loop_fails : (count left more : ℕ) (bytes rest : List ℕ) (xs : List A) (why : LineFault)
       → left ≡ suc more → Goes read count bytes xs left rest → Misses why (read rest) → Misses why (times read count bytes)
-  loop_fails count left more bytes rest xs faults.NoCheckpoint next goes none = goes_out read count left more bytes rest xs next none goes
+  loop_fails count left more bytes rest xs faults.NoForm next goes none = goes_out read count left more bytes rest xs next none goes
   loop_fails count left more bytes rest xs faults.Memory next goes none = tt
 
   -- one more was read, and added
@@ -23,7 +24,7 @@ module _ {A : Type 0} (read : List ℕ → Option (A × List ℕ)) where
       ∙ goes_more read count left more bytes rest behind (map seen ys) (seen y) next is goes
 
 -- a fault that is handed on
-pub handed : {X A : Type 0} (all : X → A) (r : Result X CheckpointFault) (found : Option A) (e : CheckpointFault) → IsErrAnd r (λ y. y ≡ e) → Misses e found → Reads all r found
+pub handed : {X A : Type 0} (all : X → A) (r : Result X LineFault) (found : Option A) (e : LineFault) → IsErrAnd r (λ y. y ≡ e) → Misses e found → Reads all r found
 handed all r found e is h =
     let p = err_from_is_err_and r is in
     subst (λ x. Reads all x found) (sym (p.1 ∙ ap Err p.2)) h

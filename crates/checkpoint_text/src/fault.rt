@@ -2,6 +2,7 @@
 
 ghost use Rattle.std.specs.Prelude.{◌≡◌};
 
+use journal_text::LineFault;
 use std::alloc::AllocError;
 use thiserror::Error;
 
@@ -23,5 +24,18 @@ impl From<AllocError> for CheckpointFault {
 
     fn from(_refused: AllocError) -> CheckpointFault {
         CheckpointFault::Memory
+    }
+}
+
+impl From<LineFault> for CheckpointFault {
+    ghost use Rattle.checkpoint_text.specs.inside.Reading.{fault_of_line};
+
+    ghost from_gives = { λ why e. e ≡ fault_of_line why };
+
+    fn from(why: LineFault) -> CheckpointFault {
+        match why {
+            LineFault::NoForm => CheckpointFault::NoCheckpoint,
+            LineFault::Memory => CheckpointFault::Memory,
+        }
     }
 }

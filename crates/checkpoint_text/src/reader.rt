@@ -2,25 +2,28 @@
 
 ghost use Rattle.std.specs.Prelude.{◌≡◌, ◌++◌, ◌∷◌, [], IfSome, None, OnOk, codes, map, string_bytes};
 ghost use Rattle.std.specs.Str.{IsUtf8};
+ghost use Rattle.journal_text.specs.inside.Answers.{Reads};
 ghost use Rattle.journal_text.specs.inside.Candidates.{◌⊗◌, wide_of, word_of};
 ghost use Rattle.grain_id.specs.Names.{same_text};
 ghost use Rattle.tenant_accounts.specs.Parts.{kept_in};
 ghost use Rattle.tenant_accounts.specs.Sends.{send_of};
 ghost use Rattle.checkpoint_text.specs.Answers.{ReadsCheckpoint, checkpoint_in, grain_in};
-ghost use Rattle.checkpoint_text.specs.inside.Reading.{Reads, account_at, body_at, body_of, counted_at, grain_at, grain_of_fields};
+ghost use Rattle.checkpoint_text.specs.inside.Reading.{account_at, body_at, body_of, counted_at, grain_at, grain_of_fields};
 ghost use Rattle.checkpoint_text.specs.inside.Reading.{head_at, lists_at, send_at, send_of_fields, times};
 
 use crate::checkpoint::Checkpoint;
 use crate::fault::CheckpointFault;
-use crate::field_reader::{
-    cut, cut_named, cut_number, parse_grain, parse_message, parse_moment, parse_name, parse_state,
-    parse_u64, parse_version,
-};
+use crate::field_reader::{cut_named, cut_number, parse_moment, parse_name, parse_version};
 use crate::writer::checkpoint_of;
 use grain_id::{GrainId, NameCache};
+use journal_text::fields::{cut, parse_grain, parse_message, parse_state, parse_u64};
+use journal_text::{Form, LineFault};
 use silo_state::GrainParts;
 use std::alloc::{AllocError, Global};
 use tenant_accounts::{AccountParts, Sent};
+
+/// The form that messages and states have, as in a journal.
+const FORM: Form = Form::Third;
 
 /// Bytes of the last line.
 const SUM_LINE: usize = 21;
@@ -32,14 +35,14 @@ fn add<T: Drop>(list: &mut Vec<T>, value: T) -> Result<(), AllocError>
     Ok(())
 }
 
-fn read_send(alloc: Global, names: &mut NameCache, fields: &str) -> Result<Sent, CheckpointFault>
+fn read_send(alloc: Global, names: &mut NameCache, fields: &str) -> Result<Sent, LineFault>
     ensures { Reads send_of result (send_of_fields fields.now) }
 {
-    let (source, fields) = cut(fields)?;
+    let (source, fields) = cut(fields, ' ')?;
     let source = parse_grain(alloc, names, source)?;
-    let (target, message) = cut(fields)?;
+    let (target, message) = cut(fields, ' ')?;
     let target = parse_grain(alloc, names, target)?;
-    let message = parse_message(alloc, message)?;
+    let message = parse_message(alloc, FORM, message)?;
     Ok(Sent {
         source,
         target,
@@ -51,7 +54,7 @@ fn cut_send<'a>(
     alloc: Global,
     names: &mut NameCache,
     text: &'a str,
-) -> Result<(Sent, &'a str), CheckpointFault>
+) -> Result<(Sent, &'a str), LineFault>
     ensures { Reads (λ parts. (send_of parts.0, parts.1.now)) result (send_at text.now) }
 {
     let (fields, behind) = cut_named("send", text)?;
@@ -65,7 +68,7 @@ fn cut_sends<'a>(
     names: &mut NameCache,
     count: u64,
     text: &'a str,
-) -> Result<(Vec<Sent>, &'a str), CheckpointFault>
+) -> Result<(Vec<Sent>, &'a str), LineFault>
     ensures { Reads (λ parts. (map send_of parts.0.items, parts.1.now)) result (times send_at count text.now) }
 {
     let mut sends = Vec::new(alloc);
@@ -79,12 +82,12 @@ fn cut_sends<'a>(
 }
 
 /// What a tenant's line says: its name, its count, and the number of its sends.
-fn read_account(alloc: Global, fields: &str) -> Result<(String, (u64, u64)), CheckpointFault>
+fn read_account(alloc: Global, fields: &str) -> Result<(String, (u64, u64)), LineFault>
     ensures { Reads (λ head. (string_bytes head.0, head.1)) result ((word_of ⊗ wide_of ⊗ wide_of) fields.now) }
 {
-    let (name, fields) = cut(fields)?;
+    let (name, fields) = cut(fields, ' ')?;
     let name = parse_name(alloc, name)?;
-    let (count, sends) = cut(fields)?;
+    let (count, sends) = cut(fields, ' ')?;
     let count = parse_u64(count)?;
     let sends = parse_u64(sends)?;
     Ok((name, (count, sends)))
@@ -94,7 +97,7 @@ fn cut_account<'a>(
     alloc: Global,
     names: &mut NameCache,
     text: &'a str,
-) -> Result<(AccountParts, &'a str), CheckpointFault>
+) -> Result<(AccountParts, &'a str), LineFault>
     ensures { Reads (λ parts. (kept_in parts.0, parts.1.now)) result (account_at text.now) }
 {
     let (fields, behind) = cut_named("account", text)?;
@@ -109,7 +112,7 @@ fn cut_each_account<'a>(
     names: &mut NameCache,
     count: u64,
     text: &'a str,
-) -> Result<(Vec<AccountParts>, &'a str), CheckpointFault>
+) -> Result<(Vec<AccountParts>, &'a str), LineFault>
     ensures { Reads (λ parts. (map kept_in parts.0.items, parts.1.now)) result (times account_at count text.now) }
 {
     let mut accounts = Vec::new(alloc);
@@ -126,18 +129,18 @@ fn read_grain(
     alloc: Global,
     names: &mut NameCache,
     fields: &str,
-) -> Result<(GrainId, GrainParts), CheckpointFault>
+) -> Result<(GrainId, GrainParts), LineFault>
     ensures { Reads grain_in result (grain_of_fields fields.now) }
 {
-    let (grain, fields) = cut(fields)?;
+    let (grain, fields) = cut(fields, ' ')?;
     let grain = parse_grain(alloc, names, grain)?;
-    let (version, fields) = cut(fields)?;
+    let (version, fields) = cut(fields, ' ')?;
     let version = parse_version(version)?;
-    let (last, fields) = cut(fields)?;
+    let (last, fields) = cut(fields, ' ')?;
     let last = parse_moment(last)?;
-    let (until, state) = cut(fields)?;
+    let (until, state) = cut(fields, ' ')?;
     let until = parse_u64(until)?;
-    let state = parse_state(alloc, state)?;
+    let state = parse_state(alloc, FORM, state)?;
     Ok((
         grain,
         GrainParts {
@@ -153,7 +156,7 @@ fn cut_grain<'a>(
     alloc: Global,
     names: &mut NameCache,
     text: &'a str,
-) -> Result<((GrainId, GrainParts), &'a str), CheckpointFault>
+) -> Result<((GrainId, GrainParts), &'a str), LineFault>
     ensures { Reads (λ parts. (grain_in parts.0, parts.1.now)) result (grain_at text.now) }
 {
     let (fields, behind) = cut_named("up", text)?;
@@ -167,7 +170,7 @@ fn cut_each_grain<'a>(
     names: &mut NameCache,
     count: u64,
     text: &'a str,
-) -> Result<(Vec<(GrainId, GrainParts)>, &'a str), CheckpointFault>
+) -> Result<(Vec<(GrainId, GrainParts)>, &'a str), LineFault>
     ensures { Reads (λ parts. (map grain_in parts.0.items, parts.1.now)) result (times grain_at count text.now) }
 {
     let mut grains = Vec::new(alloc);
@@ -184,7 +187,7 @@ fn cut_accounts<'a>(
     alloc: Global,
     names: &mut NameCache,
     text: &'a str,
-) -> Result<(Vec<AccountParts>, &'a str), CheckpointFault>
+) -> Result<(Vec<AccountParts>, &'a str), LineFault>
     ensures { Reads (λ parts. (map kept_in parts.0.items, parts.1.now)) result (counted_at (codes "accounts") account_at text.now) }
 {
     let (count, behind) = cut_number("accounts", text)?;
@@ -195,7 +198,7 @@ fn cut_grains<'a>(
     alloc: Global,
     names: &mut NameCache,
     text: &'a str,
-) -> Result<(Vec<(GrainId, GrainParts)>, &'a str), CheckpointFault>
+) -> Result<(Vec<(GrainId, GrainParts)>, &'a str), LineFault>
     ensures { Reads (λ parts. (map grain_in parts.0.items, parts.1.now)) result (counted_at (codes "grains") grain_at text.now) }
 {
     let (count, behind) = cut_number("grains", text)?;
@@ -203,7 +206,7 @@ fn cut_grains<'a>(
 }
 
 /// What the checkpoint follows, how many calls are delivered after a line, and what follows these lines.
-fn cut_head(text: &str) -> Result<((&str, u64), &str), CheckpointFault>
+fn cut_head(text: &str) -> Result<((&str, u64), &str), LineFault>
     ensures { Reads (λ parts. ((parts.0.0.now, parts.0.1), parts.1.now)) result (head_at text.now) }
 {
     let (_, behind) = cut_named("silo-checkpoint", text)?;
@@ -217,7 +220,7 @@ fn cut_lists<'a>(
     alloc: Global,
     names: &mut NameCache,
     text: &'a str,
-) -> Result<((Vec<AccountParts>, Vec<(GrainId, GrainParts)>), &'a str), CheckpointFault>
+) -> Result<((Vec<AccountParts>, Vec<(GrainId, GrainParts)>), &'a str), LineFault>
     ensures { Reads (λ parts. ((map kept_in parts.0.0.items, map grain_in parts.0.1.items), parts.1.now)) result (lists_at text.now) }
 {
     let (accounts, behind) = cut_accounts(alloc, names, text)?;
@@ -230,7 +233,7 @@ fn read_body<'a>(
     alloc: Global,
     names: &mut NameCache,
     text: &'a str,
-) -> Result<Checkpoint<'a>, CheckpointFault>
+) -> Result<Checkpoint<'a>, LineFault>
     ensures { Reads checkpoint_in result (body_at text.now) }
 {
     let ((follows, sends), behind) = cut_head(text)?;

@@ -1,6 +1,6 @@
 -- What parts keep of a journal's rules, put together.
-use Rattle.journal_text.proofs.Common.{◌≡◌, ◌<◌, ◌^◌, ◌≤◌, ◌∷◌, ◌++◌, ◌&&◌, ℕ, Ages, All, All-cons, All-head, All-nil, All-tail, Bool, Form, Grain, History, IsAge, IsKinds, IsLine, KeepsRulesIn, Line, List, None, Option, Row, Some, Step, Table, [], and_from, arith, body, cond, false, history_of, is_recorded_fault, is_text_byte, journal_lines, kind_line, le-leb, leb, length, list_all, map, not, refl, row_line, some_none, start_lines, subst, sym, take, tenant_line, true, true≢false, written}
-use Rattle.std.specs.Prelude.{IsTrue, find, option_map}
+use Rattle.journal_text.proofs.Common.{◌≡◌, ◌<◌, ◌^◌, ◌≤◌, ◌∷◌, ◌++◌, ◌&&◌, ℕ, Ages, All, All-cons, All-head, All-nil, All-tail, Bool, Grain, History, IsAge, IsKinds, IsLine, Line, List, None, Option, Row, Some, Step, Table, [], and_from, arith, body, cond, false, history_of, is_recorded_fault, is_text_byte, journal_lines, kind_line, le-leb, leb, length, list_all, map, not, refl, row_line, some_none, start_lines, subst, sym, take, tenant_line, true, true≢false, written}
+use Rattle.std.specs.Prelude.{find, option_map}
 use Rattle.std.specs.Option.{option_or}
 use Rattle.std.specs.List.{AllByRecursion}
 use Rattle.std.proofs.lemmas.List.{take_all}

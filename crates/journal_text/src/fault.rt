@@ -28,11 +28,13 @@ impl From<AllocError> for JournalFault {
 }
 
 /// Why a line, or a field of one, was not read.
-#[derive(Clone, Copy)]
+#[derive(Clone, Copy, Debug, PartialEq, Eq, Error)]
 pub enum LineFault {
     /// It has no form that a line or the field may have.
+    #[error("the text has no form that a line or a field may have")]
     NoForm,
     /// Memory was refused.
+    #[error("out of memory")]
     Memory,
 }
 

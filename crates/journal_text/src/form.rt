@@ -7,7 +7,7 @@ ghost use Rattle.journal_text.specs.Text.{line_text, kinds_lines};
 ghost use Rattle.journal_text.specs.declared.line.Line.TheVariants as line;
 
 /// A form of a journal's text. The head of a journal names it.
-#[derive(Clone, Copy)]
+#[derive(Clone, Copy, Debug, PartialEq, Eq)]
 pub enum Form {
     /// `silo-journal 1`.
     First,

@@ -4,12 +4,12 @@
 //! kinds, its tenants with their limits, its steps, its recorded replies and its recorded rows, and it
 //! keeps the rules of a journal's text, which has three forms. The text of a journal is in
 //! `specs/Text.antt`, the rules in `specs/Rules.antt`, and which line of other bytes is at fault in
-//! `specs/FirstFault.antt`.
+//! `specs/FirstFault.antt`. The fields that other texts have too are read by `fields`.
 #![tactic(auto)]
 
 mod draft;
 mod fault;
-mod field_reader;
+pub mod fields;
 mod form;
 mod journal;
 mod journal_reader;
@@ -23,7 +23,8 @@ mod migration;
 mod recorded;
 mod step_reader;
 
-pub use fault::JournalFault;
+pub use fault::{JournalFault, LineFault};
+pub use form::Form;
 pub use journal::Journal;
 pub use journal_reader::read_journal;
 pub use journal_writer::{JournalParts, journal_of_parts};

@@ -17,7 +17,9 @@ ghost use Rattle.journal_text.specs.Text.{line_text};
 ghost use Rattle.journal_text.specs.inside.Answers.{ReadsLine};
 
 use crate::fault::LineFault;
-use crate::field_reader::{cut, parse_caller, parse_grain, parse_number, parse_state, parse_u64};
+use crate::fields::{
+    cut, parse_caller, parse_grain, parse_number, parse_state, parse_tenant_name, parse_u64,
+};
 use crate::form::Form;
 use crate::line::Line;
 use crate::line_writer::push_line;
@@ -99,7 +101,7 @@ fn parse_kind(alloc: Global, form: Form, fields: &str) -> Result<(Kind, Age), Li
     ensures gives { Reads (λ read. read) result (kind_of form fields.now) }
     ensures well_formed { IfOk result (λ read. IsTrue (tells_kinds form) × IsTrue (is_word read.0) × IsAge read.1) }
 {
-    let (name, age) = cut(fields)?;
+    let (name, age) = cut(fields, ' ')?;
     let kind = parse_kind_name(alloc, name)?;
     let age = parse_age(age)?;
     if form.tells_kinds() {
@@ -107,20 +109,6 @@ fn parse_kind(alloc: Global, form: Form, fields: &str) -> Result<(Kind, Age), Li
     }
     drop(kind);
     Err(LineFault::NoForm)
-}
-
-/// The tenant of that name.
-fn parse_tenant_name(alloc: Global, field: &str) -> Result<Tenant, LineFault>
-    ensures gives { Reads (λ read. read) result (word_of field.now) }
-    ensures well_formed { IfOk result (λ tenant. IsTrue (is_word tenant)) }
-{
-    match Tenant::read(alloc, field) {
-        Ok(tenant) => Ok(tenant),
-        Err(IdFault::Memory) => Err(LineFault::Memory),
-        Err(IdFault::Kind | IdFault::Tenant | IdFault::Name | IdFault::Client) => {
-            Err(LineFault::NoForm)
-        }
-    }
 }
 
 /// The limits of these numbers.
@@ -147,9 +135,9 @@ fn parse_tenant(alloc: Global, fields: &str) -> Result<(Tenant, Limits), LineFau
     ensures gives { Reads (λ read. read) result (tenant_of fields.now) }
     ensures well_formed { IfOk result (λ read. IsTrue (is_word read.0) × IsTrue (are_in_range read.1)) }
 {
-    let (name, fields) = cut(fields)?;
+    let (name, fields) = cut(fields, ' ')?;
     let tenant = parse_tenant_name(alloc, name)?;
-    let (activations, mailbox) = cut(fields)?;
+    let (activations, mailbox) = cut(fields, ' ')?;
     let activations = parse_u64(activations)?;
     let mailbox = parse_u64(mailbox)?;
     let limits = parse_limits(activations, mailbox)?;
@@ -188,7 +176,7 @@ fn parse_outcome(
     ensures gives { Reads (λ read. read) result (outcome_of form fields.now) }
     ensures well_formed { IfOk result (IsOutcome form) }
 {
-    let (word, fields) = cut(fields)?;
+    let (word, fields) = cut(fields, ' ')?;
     match word {
         "ok" => {
             let value = parse_state(alloc, form, fields)?;
@@ -212,8 +200,8 @@ fn parse_reply(
     ensures gives { Reads (λ read. read) result (reply_of form fields.now) }
     ensures well_formed { IfOk result (λ read. IsParty read.recipient × IsOutcome form read.outcome) }
 {
-    let (who, fields) = cut(fields)?;
-    let (number, fields) = cut(fields)?;
+    let (who, fields) = cut(fields, ' ')?;
+    let (number, fields) = cut(fields, ' ')?;
     let recipient = parse_recipient(alloc, names, who, number)?;
     let outcome = parse_outcome(alloc, form, fields)?;
     Ok(RecordedReply { recipient, outcome })
@@ -256,9 +244,9 @@ fn parse_row(
     ensures gives { Reads (λ read. read) result (row_of form fields.now) }
     ensures well_formed { IfOk result (λ read. IsTrue (is_grain read.0) × IsRow form read.1) }
 {
-    let (grain, fields) = cut(fields)?;
+    let (grain, fields) = cut(fields, ' ')?;
     let grain = parse_grain(alloc, names, grain)?;
-    let (version, content) = cut(fields)?;
+    let (version, content) = cut(fields, ' ')?;
     let version = parse_version(version)?;
     let content = parse_content(alloc, form, content)?;
     Ok((grain, Row { version, content }))
@@ -350,7 +338,7 @@ fn parse_candidate(
     match text {
         "sweep" => Ok(Line::Step(Step::Sweep)),
         _ => {
-            let (word, fields) = cut(text)?;
+            let (word, fields) = cut(text, ' ')?;
             parse_named(alloc, form, names, word, fields)
         }
     }

@@ -8,7 +8,7 @@ ghost use Rattle.journal_text.specs.inside.Answers.{Reads};
 ghost use Rattle.journal_text.specs.inside.Candidates.{recorded_fault_of};
 
 use crate::fault::LineFault;
-use crate::field_reader::{cut, parse_u64};
+use crate::fields::{cut, parse_u64};
 use crate::form::Form;
 use request_codec::StateBytes;
 use silo_event::Party;
@@ -78,7 +78,7 @@ pub(crate) fn parse_recorded_fault(
     ensures gives { Reads (λ read. read) result (recorded_fault_of form fields.now) }
     ensures well_formed { IfOk result (λ fault. IsTrue (is_recorded_fault form fault)) }
 {
-    let (code, text) = cut(fields)?;
+    let (code, text) = cut(fields, ' ')?;
     let number = parse_u64(code)?;
     if !form.is_code(number) || text.is_empty() || !are_text_bytes(text.as_bytes()) {
         return Err(LineFault::NoForm);

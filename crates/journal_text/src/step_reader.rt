@@ -9,7 +9,7 @@ ghost use Rattle.journal_text.specs.declared.form.Form.{Form};
 ghost use Rattle.journal_text.specs.Rules.{IsStep, IsNumber};
 
 use crate::fault::LineFault;
-use crate::field_reader::{
+use crate::fields::{
     cut, parse_caller, parse_grain, parse_mark, parse_message, parse_number, parse_refusal,
     parse_state,
 };
@@ -29,9 +29,9 @@ fn parse_refuse(
     ensures gives { Reads (λ read. read) result (refuse_of form fields.now) }
     ensures is_step { IfOk result (IsStep form) }
 {
-    let (caller, fields) = cut(fields)?;
+    let (caller, fields) = cut(fields, ' ')?;
     let caller = parse_caller(alloc, names, caller)?;
-    let (id, code) = cut(fields)?;
+    let (id, code) = cut(fields, ' ')?;
     let id = parse_number(id)?;
     let code = parse_refusal(form, code)?;
     Ok(Step::Refuse { caller, id, code })
@@ -47,11 +47,11 @@ fn parse_call(
     ensures gives { Reads (λ read. read) result (call_of form fields.now) }
     ensures is_step { IfOk result (IsStep form) }
 {
-    let (caller, fields) = cut(fields)?;
+    let (caller, fields) = cut(fields, ' ')?;
     let caller = parse_caller(alloc, names, caller)?;
-    let (id, fields) = cut(fields)?;
+    let (id, fields) = cut(fields, ' ')?;
     let id = parse_number(id)?;
-    let (grain, message) = cut(fields)?;
+    let (grain, message) = cut(fields, ' ')?;
     let grain = parse_grain(alloc, names, grain)?;
     let message = parse_message(alloc, form, message)?;
     Ok(Step::Call {
@@ -67,7 +67,7 @@ fn parse_status(alloc: Global, names: &mut NameCache, fields: &str) -> Result<St
     ensures gives { Reads (λ read. read) result (status_of fields.now) }
     ensures is_step { (form : Form) → IfOk result (IsStep form) }
 {
-    let (caller, id) = cut(fields)?;
+    let (caller, id) = cut(fields, ' ')?;
     let caller = parse_caller(alloc, names, caller)?;
     let id = parse_number(id)?;
     Ok(Step::Status { caller, id })
@@ -83,13 +83,13 @@ fn parse_poke(
     ensures gives { Reads (λ read. read) result (poke_of form fields.now) }
     ensures is_step { IfOk result (IsStep form) }
 {
-    let (caller, fields) = cut(fields)?;
+    let (caller, fields) = cut(fields, ' ')?;
     let caller = parse_caller(alloc, names, caller)?;
-    let (id, fields) = cut(fields)?;
+    let (id, fields) = cut(fields, ' ')?;
     let id = parse_number(id)?;
-    let (grain, fields) = cut(fields)?;
+    let (grain, fields) = cut(fields, ' ')?;
     let grain = parse_grain(alloc, names, grain)?;
-    let (mark, state) = cut(fields)?;
+    let (mark, state) = cut(fields, ' ')?;
     let failed = parse_mark(mark)?;
     let state = parse_state(alloc, form, state)?;
     Ok(Step::Poke {
@@ -106,7 +106,7 @@ fn parse_load(alloc: Global, names: &mut NameCache, fields: &str) -> Result<Step
     ensures gives { Reads (λ read. read) result (load_of fields.now) }
     ensures is_step { (form : Form) → IfOk result (IsStep form) }
 {
-    let (grain, mark) = cut(fields)?;
+    let (grain, mark) = cut(fields, ' ')?;
     let grain = parse_grain(alloc, names, grain)?;
     let failed = parse_mark(mark)?;
     Ok(Step::Load { grain, failed })
@@ -117,9 +117,9 @@ fn parse_store(alloc: Global, names: &mut NameCache, fields: &str) -> Result<Ste
     ensures gives { Reads (λ read. read) result (store_of fields.now) }
     ensures is_step { (form : Form) → IfOk result (IsStep form) }
 {
-    let (grain, fields) = cut(fields)?;
+    let (grain, fields) = cut(fields, ' ')?;
     let grain = parse_grain(alloc, names, grain)?;
-    let (turn, mark) = cut(fields)?;
+    let (turn, mark) = cut(fields, ' ')?;
     let turn = parse_number(turn)?;
     let failed = parse_mark(mark)?;
     Ok(Step::Store {
@@ -138,7 +138,7 @@ fn parse_turn(
     ensures gives { Reads (λ read. read) result ((grain_of ⊗ number_of) fields.now) }
     ensures well_formed { IfOk result (λ read. IsTrue (is_grain read.0) × IsNumber read.1) }
 {
-    let (grain, turn) = cut(fields)?;
+    let (grain, turn) = cut(fields, ' ')?;
     let grain = parse_grain(alloc, names, grain)?;
     let turn = parse_number(turn)?;
     Ok((grain, turn))

@@ -1,26 +1,22 @@
 -- What bytes may be the text of: a checkpoint's text is read as the checkpoint. (Other bytes may be read as something too, so what is read
 -- is written again and compared.)
-use Rattle.std.specs.Prelude.{◌≡◌, ℕ, zero, suc, ◌-◌, List, [], ◌∷◌, codes, length, take, Option, Some, None}
-use Rattle.std.specs.Prelude.{Result, Ok, Err, if◌then◌else◌}
+use Rattle.std.specs.Prelude.{ℕ, zero, suc, ◌-◌, List, [], ◌∷◌, codes, length, take, Option, Some, None, if◌then◌else◌}
 use Rattle.grain_id.specs.Names.{Grain, same_text}
 use Rattle.grain_id.specs.Reading.{cut_at}
 use Rattle.tenant_accounts.specs.Kept.{KeptAccount, Send}
 use Rattle.silo_model.specs.Opening.{KeptGrain}
 use Rattle.journal_text.specs.Form.{written}
+use Rattle.journal_text.specs.declared.fault.LineFault.{LineFault}
+use Rattle.journal_text.specs.declared.fault.LineFault.TheVariants as line_faults
 use Rattle.journal_text.specs.inside.Candidates.{◌>>=◌, ◌⊗◌, grain_of, message_of, number_of, only_if, state_of, wide_of, word_of}
 use Rattle.checkpoint_text.specs.declared.fault.CheckpointFault.{CheckpointFault}
 use Rattle.checkpoint_text.specs.declared.fault.CheckpointFault.TheVariants as faults
 use Rattle.checkpoint_text.specs.Text.{Checkpoint}
 
--- that they are no checkpoint's is answered exactly if nothing was found
-abbrev pub Misses : {A : Type 0} → CheckpointFault → Option A → Type 0
-Misses faults.NoCheckpoint found = found ≡ None
-Misses faults.Memory found = Unit {0}
-
--- The answer, seen by view, is what was found, if anything was.
-abbrev pub Reads : {X A : Type 0} → (X → A) → Result X CheckpointFault → Option A → Type 0
-Reads view (Ok x) found = found ≡ Some (view x)
-Reads view (Err why) found = Misses why found
+-- that a line or a field of one has no form is told as that they are no checkpoint's
+abbrev pub fault_of_line : LineFault → CheckpointFault
+fault_of_line line_faults.NoForm = faults.NoCheckpoint
+fault_of_line line_faults.Memory = faults.Memory
 
 -- the fields of the first line, whose word it is, and what stands behind it
 abbrev pub named_at : List ℕ → List ℕ → Option (List ℕ × List ℕ)

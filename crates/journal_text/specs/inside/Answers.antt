@@ -18,11 +18,15 @@ use Rattle.journal_text.specs.FirstFault.{IsFirstFault}
 
 -- ---- of a field and a line
 
--- The answer, seen by view, is what was found, and NoForm exactly if nothing was.
+-- NoForm is answered exactly if nothing was found.
+abbrev pub Misses : {A : Type 0} → LineFault → Option A → Type 0
+Misses faults.NoForm found = found ≡ None
+Misses faults.Memory found = Unit {0}
+
+-- The answer, seen by view, is what was found, if anything was.
 abbrev pub Reads : {X A : Type 0} → (X → A) → Result X LineFault → Option A → Type 0
 Reads view (Ok x) found = found ≡ Some (view x)
-Reads view (Err faults.NoForm) found = found ≡ None
-Reads view (Err faults.Memory) found = Unit {0}
+Reads view (Err why) found = Misses why found
 
 -- The bytes are the text of the line that is answered; NoForm is answered only if they are the text of none.
 abbrev pub ReadsLine : Form → List ℕ → Result Line LineFault → Type 0

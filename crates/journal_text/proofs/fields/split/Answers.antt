@@ -1,6 +1,6 @@
 use Rattle.std.proofs.Common.{rules}
 use Rattle.grain_id.specs.Reading.{cut_at}
-use Rattle.checkpoint_text.proofs.field_reader.split_line.Goals as goal
+use Rattle.journal_text.proofs.fields.split.Goals as goal
 
 pub returns : goal.returns
 unfolding cut_at

@@ -1,7 +1,6 @@
-use Rattle.std.proofs.Common.{◌∙◌, arith, sym, true≢false}
-use Rattle.grain_id.specs.Order.{same_text_decides}
-use Rattle.journal_text.proofs.Numbers.{decimal_parsed, not_decimal, not_parsed, wide_of-decimal, wide_of-none, zero_read}
-use Rattle.checkpoint_text.proofs.field_reader.parse_u64.Goals as goal
+use Rattle.journal_text.proofs.Common.{sym, ◌∙◌, true≢false, arith, same_text_decides}
+use Rattle.journal_text.proofs.Numbers.{wide_of-decimal, wide_of-none, not_decimal, zero_read, not_parsed, decimal_parsed}
+use Rattle.journal_text.proofs.fields.parse_u64.Goals as goal
 
 pub returns-then-eq : goal.returns-then-eq
 returns-then-eq c = zero_read _ ((same_text_decides _ _).0 (sym c.if-eq.ensures))

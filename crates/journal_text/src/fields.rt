@@ -1,7 +1,8 @@
-//! The fields of a line.
+//! The fields of a line, read. Those that are exported stand in other texts too.
 
 ghost use Rattle.std.specs.Prelude.{◌≡◌, ◌↔◌, ◌≤◌, ◌<◌, ◌^◌, IfOk, IsTrue, option_map, slice_index};
 ghost use Rattle.grain_id.specs.Names.{is_client, is_grain};
+ghost use Rattle.grain_id.specs.Words.{is_word};
 ghost use Rattle.grain_id.specs.Reading.{cut_at};
 ghost use Rattle.hex.specs.Hex.{IsBytes};
 ghost use Rattle.request_codec.specs.Answers.{Reads as Decodes};
@@ -10,28 +11,34 @@ ghost use Rattle.journal_text.specs.Form.{HasMessage, HasState, is_code, message
 ghost use Rattle.journal_text.specs.inside.Answers.{Reads};
 ghost use Rattle.journal_text.specs.Rules.{is_refusal};
 ghost use Rattle.journal_text.specs.inside.Candidates.{only_if, wide_of, number_of, bytes_of, mark_of};
-ghost use Rattle.journal_text.specs.inside.Candidates.{client_of, grain_of, message_of, state_of, refusal_of};
+ghost use Rattle.journal_text.specs.inside.Candidates.{client_of, grain_of, message_of, state_of, refusal_of, word_of};
 
 use crate::fault::LineFault;
 use crate::form::Form;
-use grain_id::{Caller, GrainId, IdFault, NameCache};
+use grain_id::{Caller, GrainId, IdFault, NameCache, Tenant};
 use hex::FromHexError;
 use request_codec::{CodecFault, Message, StateBytes, migrate_message, read_old_state};
 use silo_event::Refusal;
 use std::alloc::Global;
 
-/// What stands before the first space, and what stands after it.
-fn split(text: &str) -> Option<(&str, &str)>
-    ensures { option_map (λ parts. (parts.0.now, parts.1.now)) result ≡ cut_at 32 text.now }
+/// What stands before the first such ASCII character, and what follows it.
+fn split(text: &str, at: char) -> Option<(&str, &str)>
+    requires { at < 128 }
+    ensures { option_map (λ parts. (parts.0.now, parts.1.now)) result ≡ cut_at at text.now }
 {
-    text.split_once(' ')
+    text.split_once(at)
 }
 
-/// The first field, and the fields after the space that follows it.
-pub(crate) fn cut(text: &str) -> Result<(&str, &str), LineFault>
-    ensures { Reads (λ parts. (parts.0.now, parts.1.now)) result (cut_at 32 text.now) }
+/// What stands before the first such ASCII character, and what follows it: before a space a field, before a line feed a line.
+///
+/// # Errors
+///
+/// `NoForm` if the text has no such character.
+pub fn cut(text: &str, at: char) -> Result<(&str, &str), LineFault>
+    requires { at < 128 }
+    ensures { Reads (λ parts. (parts.0.now, parts.1.now)) result (cut_at at text.now) }
 {
-    match split(text) {
+    match split(text, at) {
         Some(parts) => Ok(parts),
         None => Err(LineFault::NoForm),
     }
@@ -93,12 +100,30 @@ pub(crate) fn parse_caller(
     }
 }
 
+/// The tenant of that name.
+///
+/// # Errors
+///
+/// `NoForm` if the text is no tenant's name, `Memory` if memory is refused.
+pub fn parse_tenant_name(alloc: Global, field: &str) -> Result<Tenant, LineFault>
+    ensures gives { Reads (λ read. read) result (word_of field.now) }
+    ensures well_formed { IfOk result (λ tenant. IsTrue (is_word tenant)) }
+{
+    match Tenant::read(alloc, field) {
+        Ok(tenant) => Ok(tenant),
+        Err(IdFault::Memory) => Err(LineFault::Memory),
+        Err(IdFault::Kind | IdFault::Tenant | IdFault::Name | IdFault::Client) => {
+            Err(LineFault::NoForm)
+        }
+    }
+}
+
 /// The grain of that text.
-pub(crate) fn parse_grain(
-    alloc: Global,
-    names: &mut NameCache,
-    field: &str,
-) -> Result<GrainId, LineFault>
+///
+/// # Errors
+///
+/// `NoForm` if it is the text of none, `Memory` if memory is refused.
+pub fn parse_grain(alloc: Global, names: &mut NameCache, field: &str) -> Result<GrainId, LineFault>
     ensures gives { Reads (λ read. read) result (grain_of field.now) }
     ensures well_formed { IfOk result (λ grain. IsTrue (is_grain grain)) }
 {
@@ -118,8 +143,12 @@ fn begins_above_zero(text: &str) -> bool
     matches!(text.as_bytes(), [b'1'..=b'9', ..])
 }
 
-/// The number whose decimal text it is.
-pub(crate) fn parse_u64(field: &str) -> Result<u64, LineFault>
+/// The number whose decimal text it is, below 2^64.
+///
+/// # Errors
+///
+/// `NoForm` if it is the text of none.
+pub fn parse_u64(field: &str) -> Result<u64, LineFault>
     ensures { Reads (λ read. read) result (wide_of field.now) }
 {
     if field == "0" {
@@ -186,7 +215,11 @@ fn read_message(alloc: Global, form: Form, bytes: &[u8]) -> Result<Message, Line
 }
 
 /// The message whose bytes in that form these are in hexadecimal.
-pub(crate) fn parse_message(alloc: Global, form: Form, field: &str) -> Result<Message, LineFault>
+///
+/// # Errors
+///
+/// `NoForm` if they are the bytes of none, `Memory` if memory is refused.
+pub fn parse_message(alloc: Global, form: Form, field: &str) -> Result<Message, LineFault>
     ensures gives { Reads (λ read. read) result (message_of form field.now) }
     ensures spelled { IfOk result (HasMessage form) }
 {
@@ -219,7 +252,11 @@ fn read_state(alloc: Global, form: Form, bytes: &[u8]) -> Result<StateBytes, Lin
 }
 
 /// The state whose bytes in that form these are in hexadecimal.
-pub(crate) fn parse_state(alloc: Global, form: Form, field: &str) -> Result<StateBytes, LineFault>
+///
+/// # Errors
+///
+/// `NoForm` if they are the bytes of none, `Memory` if memory is refused.
+pub fn parse_state(alloc: Global, form: Form, field: &str) -> Result<StateBytes, LineFault>
     ensures gives { Reads (λ read. read) result (state_of form field.now) }
     ensures spelled { IfOk result (HasState form) }
 {
