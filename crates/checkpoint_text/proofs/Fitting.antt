@@ -9,7 +9,7 @@ use Rattle.grain_id.specs.Order.{same_text_decides}
 use Rattle.journal_text.specs.declared.fault.LineFault.{LineFault}
 use Rattle.journal_text.specs.declared.fault.LineFault.TheVariants as faults
 use Rattle.journal_text.specs.inside.Answers.{Misses}
-use Rattle.checkpoint_text.specs.declared.checkpoint.Checkpoint.{Checkpoint as Parts}
+use Rattle.checkpoint_text.specs.declared.checkpoint.Checkpoint.{Checkpoint as Read}
 use Rattle.checkpoint_text.specs.declared.fault.CheckpointFault.{CheckpointFault}
 use Rattle.checkpoint_text.specs.Answers.{ReadsCheckpoint}
 use Rattle.checkpoint_text.specs.Rules.{IsCheckpoint}
@@ -28,7 +28,7 @@ fails : (bytes : List ℕ) (why : LineFault) → Misses why (body_at (body_of by
 fails bytes faults.NoForm none = λ c is same. none-some c (sym none ∙ found bytes c is same)
 fails bytes faults.Memory none = tt
 
-pub fails_too : (bytes : List ℕ) (r : Result Parts CheckpointFault) (why : LineFault) → IsErrAnd r (λ y. y ≡ fault_of_line why) → Misses why (body_at (body_of bytes)) → ReadsCheckpoint bytes r
+pub fails_too : (bytes : List ℕ) (r : Result Read CheckpointFault) (why : LineFault) → IsErrAnd r (λ y. y ≡ fault_of_line why) → Misses why (body_at (body_of bytes)) → ReadsCheckpoint bytes r
 fails_too bytes r why is none =
     let p = err_from_is_err_and r is in
     subst (ReadsCheckpoint bytes) (sym (p.1 ∙ ap Err p.2)) (fails bytes why none)

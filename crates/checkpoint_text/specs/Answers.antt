@@ -4,8 +4,10 @@ use Rattle.grain_id.specs.Names.{Grain}
 use Rattle.tenant_accounts.specs.Parts.{kept_in}
 use Rattle.silo_state.specs.KeptParts.{kept_grain_in}
 use Rattle.silo_state.specs.declared.parts.GrainParts.{GrainParts}
+use Rattle.silo_state.specs.declared.parts.KeptParts.{KeptParts}
 use Rattle.silo_model.specs.Opening.{KeptGrain}
-use Rattle.checkpoint_text.specs.declared.checkpoint.Checkpoint.{Checkpoint as Parts}
+use Rattle.checkpoint_text.specs.declared.checkpoint.Checkpoint.{Checkpoint as Read}
+use Rattle.checkpoint_text.specs.declared.checkpoint.CheckpointParts.{CheckpointParts}
 use Rattle.checkpoint_text.specs.declared.fault.CheckpointFault.{CheckpointFault}
 use Rattle.checkpoint_text.specs.declared.fault.CheckpointFault.TheVariants as faults
 use Rattle.checkpoint_text.specs.Rules.{IsCheckpoint}
@@ -14,20 +16,27 @@ use Rattle.checkpoint_text.specs.Text.{Checkpoint, checkpoint_text}
 abbrev pub grain_in : Grain × GrainParts → Grain × KeptGrain
 grain_in g = (g.0, kept_grain_in g.1)
 
--- a checkpoint, as it is read
-abbrev pub checkpoint_in : Parts → Checkpoint
-checkpoint_in c = record {
-  follows = c.follows.now;
-  sends = c.sends;
-  clock = c.clock;
-  accounts = map kept_in c.accounts.items;
-  grains = map grain_in c.grains.items;
-  journal = c.journal.now;
+-- the checkpoint of these
+abbrev pub checkpoint_by : List ℕ → ℕ → KeptParts → List ℕ → Checkpoint
+checkpoint_by follows sends kept journal = record {
+  follows = follows;
+  sends = sends;
+  clock = kept.clock;
+  accounts = map kept_in kept.accounts.items;
+  grains = map grain_in kept.grains.items;
+  journal = journal;
 }
+
+-- a checkpoint, as it is read, and as it is to be written
+abbrev pub checkpoint_in : Read → Checkpoint
+checkpoint_in c = checkpoint_by c.follows.now c.sends c.kept c.journal.now
+
+abbrev pub parts_in : CheckpointParts → Checkpoint
+parts_in p = checkpoint_by p.follows.now p.sends p.kept.now p.journal.now
 
 -- The bytes are the text of the checkpoint that is answered, and of no other that may stand in one; that they are none is answered only
 -- if they are.
-abbrev pub ReadsCheckpoint : List ℕ → Result Parts CheckpointFault → Type 0
+abbrev pub ReadsCheckpoint : List ℕ → Result Read CheckpointFault → Type 0
 ReadsCheckpoint bytes (Ok p) =
     (bytes ≡ checkpoint_text (checkpoint_in p))
     × ((c : Checkpoint) → IsCheckpoint c → bytes ≡ checkpoint_text c → checkpoint_in p ≡ c)

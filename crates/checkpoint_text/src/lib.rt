@@ -13,7 +13,7 @@ mod line_writer;
 mod reader;
 mod writer;
 
-pub use checkpoint::Checkpoint;
+pub use checkpoint::{Checkpoint, CheckpointParts};
 pub use fault::CheckpointFault;
 pub use reader::read_checkpoint;
 pub use writer::checkpoint_of;

@@ -18,7 +18,7 @@ use crate::writer::checkpoint_of;
 use grain_id::{GrainId, NameCache};
 use journal_text::fields::{cut, parse_grain, parse_message, parse_state, parse_u64};
 use journal_text::{Form, LineFault};
-use silo_state::GrainParts;
+use silo_state::{GrainParts, KeptParts};
 use std::alloc::{AllocError, Global};
 use tenant_accounts::{AccountParts, Sent};
 
@@ -243,9 +243,11 @@ fn read_body<'a>(
     Ok(Checkpoint {
         follows,
         sends,
-        clock,
-        accounts,
-        grains,
+        kept: KeptParts {
+            clock,
+            accounts,
+            grains,
+        },
         journal,
     })
 }
@@ -283,7 +285,7 @@ pub fn read_checkpoint(alloc: Global, bytes: &[u8]) -> Result<Checkpoint<'_>, Ch
     };
     let mut names = NameCache::new(alloc);
     let checkpoint = read_body(alloc, &mut names, body)?;
-    let text = checkpoint_of(alloc, &checkpoint)?;
+    let text = checkpoint_of(alloc, &checkpoint.parts())?;
     if is_same(text.as_slice(), bytes) {
         Ok(checkpoint)
     } else {

@@ -3,11 +3,11 @@
 ghost use Rattle.std.specs.Prelude.{◌≡◌, ◌++◌, IfOk, OnOk, flat_map, map, string_bytes};
 ghost use Rattle.tenant_accounts.specs.Parts.{kept_in};
 ghost use Rattle.tenant_accounts.specs.Sends.{send_of};
-ghost use Rattle.checkpoint_text.specs.Answers.{checkpoint_in, grain_in};
+ghost use Rattle.checkpoint_text.specs.Answers.{grain_in, parts_in};
 ghost use Rattle.checkpoint_text.specs.Text.{account_text, accounts_text, body_text, checkpoint_text, grain_line, grains_text};
 ghost use Rattle.checkpoint_text.specs.Text.{send_line, start_text};
 
-use crate::checkpoint::Checkpoint;
+use crate::checkpoint::CheckpointParts;
 use crate::line_writer::{push_account_line, push_grain, push_number, push_send, push_text};
 use grain_id::GrainId;
 use log_text::{spell, sum_after};
@@ -60,13 +60,13 @@ fn push_each_grain(
 }
 
 /// Adds the first lines.
-fn push_start(text: &mut String, checkpoint: &Checkpoint<'_>) -> Result<(), AllocError>
-    ensures { OnOk result (string_bytes text.new ≡ string_bytes text.old ++ start_text (checkpoint_in checkpoint.now)) }
+fn push_start(text: &mut String, parts: &CheckpointParts<'_>) -> Result<(), AllocError>
+    ensures { OnOk result (string_bytes text.new ≡ string_bytes text.old ++ start_text (parts_in parts.now)) }
 {
     push_text(text, "silo-checkpoint", "1")?;
-    push_text(text, "follows", checkpoint.follows)?;
-    push_number(text, "sends", checkpoint.sends)?;
-    push_number(text, "clock", checkpoint.clock.get())
+    push_text(text, "follows", parts.follows)?;
+    push_number(text, "sends", parts.sends)?;
+    push_number(text, "clock", parts.kept.clock.get())
 }
 
 fn push_accounts(
@@ -91,28 +91,36 @@ fn push_grains(
     push_each_grain(alloc, text, grains)
 }
 
-/// All but the last line.
-fn body_of(alloc: Global, checkpoint: &Checkpoint<'_>) -> Result<String, AllocError>
-    ensures { IfOk result (λ text. string_bytes text ≡ body_text (checkpoint_in checkpoint.now)) }
+/// All lines but those of the journal and the last.
+fn lines_of(alloc: Global, parts: &CheckpointParts<'_>) -> Result<String, AllocError>
+    ensures { IfOk result (λ text. string_bytes text ++ parts.now.journal.now ≡ body_text (parts_in parts.now)) }
 {
     let mut text = String::new(alloc);
-    push_start(&mut text, checkpoint)?;
-    push_accounts(alloc, &mut text, checkpoint.accounts.as_slice())?;
-    push_grains(alloc, &mut text, checkpoint.grains.as_slice())?;
-    text.push_str(checkpoint.journal)?;
+    push_start(&mut text, parts)?;
+    push_accounts(alloc, &mut text, parts.kept.accounts.as_slice())?;
+    push_grains(alloc, &mut text, parts.kept.grains.as_slice())?;
+    Ok(text)
+}
+
+/// All but the last line.
+fn body_of(alloc: Global, parts: &CheckpointParts<'_>) -> Result<Vec<u8>, AllocError>
+    ensures { IfOk result (λ text. text.items ≡ body_text (parts_in parts.now)) }
+{
+    let mut text = lines_of(alloc, parts)?.into_bytes();
+    text.extend_from_slice(parts.journal)?;
     Ok(text)
 }
 
 /// The text of a checkpoint. It is read as that checkpoint again if what no type keeps of it is in range: the names of
-/// tenants, and `follows`, which is of visible ASCII.
+/// tenants, `follows`, which is of visible ASCII, and the journal, which is of ASCII.
 ///
 /// # Errors
 ///
 /// Out of memory.
-pub fn checkpoint_of(alloc: Global, checkpoint: &Checkpoint<'_>) -> Result<Vec<u8>, AllocError>
-    ensures { IfOk result (λ text. text.items ≡ checkpoint_text (checkpoint_in checkpoint.now)) }
+pub fn checkpoint_of(alloc: Global, parts: &CheckpointParts<'_>) -> Result<Vec<u8>, AllocError>
+    ensures { IfOk result (λ text. text.items ≡ checkpoint_text (parts_in parts.now)) }
 {
-    let mut text = body_of(alloc, checkpoint)?.into_bytes();
+    let mut text = body_of(alloc, parts)?;
     let sum = spell(sum_after(0, text.as_slice()));
     text.extend_from_slice(b"sum ")?;
     text.extend_from_slice(&sum)?;

@@ -80,10 +80,7 @@ impl<S: GrainStorage + Drop, L: GrainLogic + Drop> SiloState<S, L> {
     /// # Errors
     ///
     /// Out of memory.
-    pub fn new(
-        alloc: Global,
-        setup: StateSetup<'_, S, L>,
-    ) -> Result<SiloState<S, L>, AllocError>
+    pub fn new(alloc: Global, setup: StateSetup<'_, S, L>) -> Result<SiloState<S, L>, AllocError>
         ensures { IfOk result (λ b. b ≡ record {
           whole = opening (new_setup setup.entry.tenants.now setup.entry.age setup.entry.ages (S.rows setup.entry.storage));
           failures = S.failed setup.entry.storage;

@@ -1,8 +1,8 @@
 //! A silo that answers at once, and goes on from what was kept of another.
 
 ghost use Rattle.std.specs.Prelude.{◌≡◌, ◌↔◌, [], false, true, IfOk, IfSome, IsSome};
-ghost use Rattle.silo_model.specs.Opening.{new_setup, opening};
-ghost use Rattle.silo_state.specs.KeptParts.{MayResume, kept_in};
+ghost use Rattle.silo_model.specs.Opening.{opening};
+ghost use Rattle.silo_state.specs.KeptParts.{MayResume, resumed_setup};
 
 use crate::answering::{AnsweringSilo, LEAST_HISTORY};
 use grain_id::HashSeed;
@@ -26,7 +26,7 @@ impl<S: GrainStorage + Drop, L: GrainLogic + Drop> AnsweringSilo<S, L> {
         seed: HashSeed,
     ) -> Result<Option<AnsweringSilo<S, L>>, AllocError>
         ensures setup { IfOk result (λ found. IfSome found (λ a. a.history.setup
-            ≡ record (new_setup setup.tenants setup.age setup.ages (S.rows setup.storage)) { kept = kept_in kept })) }
+            ≡ resumed_setup setup.tenants setup.age setup.ages (S.rows setup.storage) kept)) }
         ensures opening { IfOk result (λ found. IfSome found (λ a. (a.history.whole ≡ opening a.history.setup)
             × (a.history.journal ≡ []))) }
         ensures failures { IfOk result (λ found. IfSome found (λ a. a.history.failures

@@ -1,9 +1,9 @@
 //! A silo that goes on from what was kept of another.
 
 ghost use Rattle.std.specs.Prelude.{◌≡◌, ◌↔◌, ℕ, List, [], IfOk, IfSome, IsSome};
-ghost use Rattle.silo_model.specs.Opening.{new_setup, opening, start_of};
+ghost use Rattle.silo_model.specs.Opening.{opening, start_of};
 ghost use Rattle.silo_model.specs.Whole.{shown_to};
-ghost use Rattle.silo_state.specs.KeptParts.{MayResume, kept_in};
+ghost use Rattle.silo_state.specs.KeptParts.{MayResume, resumed_setup};
 
 use crate::setup::Setup;
 use crate::silo::Silo;
@@ -29,7 +29,7 @@ impl<S: GrainStorage + Drop, L: GrainLogic + Drop> Silo<S, L> {
         seed: HashSeed,
     ) -> Result<Option<Silo<S, L>>, AllocError>
         ensures setup { IfOk result (λ found. IfSome found (λ s. s.setup
-            ≡ record (new_setup setup.tenants setup.age setup.ages (S.rows setup.storage)) { kept = kept_in kept })) }
+            ≡ resumed_setup setup.tenants setup.age setup.ages (S.rows setup.storage) kept)) }
         ensures opening { IfOk result (λ found. IfSome found (λ s. (s.whole ≡ opening s.setup) × (s.journal ≡ []))) }
         ensures failures { IfOk result (λ found. IfSome found (λ s. s.failures
             ≡ record { at_opening = S.failed setup.storage; now = S.failed setup.storage })) }

@@ -1,8 +1,8 @@
 //! A silo's state that goes on from what was kept of another.
 
 ghost use Rattle.std.specs.Prelude.{◌≡◌, ◌↔◌, IfOk, IfSome, IsSome, IsTrue};
-ghost use Rattle.silo_model.specs.Opening.{new_setup, opening};
-ghost use Rattle.silo_state.specs.KeptParts.{AllKnown, MayResume, kept_in};
+ghost use Rattle.silo_model.specs.Opening.{opening};
+ghost use Rattle.silo_state.specs.KeptParts.{AllKnown, MayResume, resumed_setup};
 
 use crate::activations::Activations;
 use crate::parts::{GrainParts, KeptParts};
@@ -39,9 +39,8 @@ impl<S: GrainStorage + Drop, L: GrainLogic + Drop> SiloState<S, L> {
         kept: &KeptParts,
     ) -> Result<Option<SiloState<S, L>>, AllocError>
         ensures resumed { IfOk result (λ found. IfSome found (λ b. b ≡ record {
-          whole = opening (record (new_setup setup.entry.tenants.now setup.entry.age setup.entry.ages (S.rows setup.entry.storage)) {
-            kept = kept_in kept.now;
-          });
+          whole = opening
+              (resumed_setup setup.entry.tenants.now setup.entry.age setup.entry.ages (S.rows setup.entry.storage) kept.now);
           failures = S.failed setup.entry.storage;
         })) }
         ensures may { IfOk result (λ found. IsSome found ↔ MayResume L.logic kept.now) }
@@ -70,4 +69,3 @@ impl<S: GrainStorage + Drop, L: GrainLogic + Drop> SiloState<S, L> {
         }))
     }
 }
-

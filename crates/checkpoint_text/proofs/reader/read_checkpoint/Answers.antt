@@ -1,5 +1,6 @@
 use Rattle.std.proofs.Common.{ap, sym, ◌∙◌}
 use Rattle.checkpoint_text.specs.Answers.{checkpoint_in}
+use Rattle.checkpoint_text.specs.Text.{checkpoint_text}
 use Rattle.checkpoint_text.specs.inside.Reading.{body_at}
 use Rattle.checkpoint_text.proofs.Fitting.{fails_too, fits, other_text, utf8_body}
 use Rattle.checkpoint_text.proofs.reader.read_checkpoint.Goals as goal
@@ -13,8 +14,8 @@ returns-in_err-checkpoint c =
 
 pub returns-then-is_same : goal.returns-then-is_same
 returns-then-is_same c =
-    fits c.args.bytes.now c.as_slice.result.now (checkpoint_in c.in_ok-checkpoint.checkpoint) (ap body_at (sym c.in-Some.ensures.some) ∙ c.in_ok-checkpoint.ensures) (c.as_slice.ensures.value ∙ c.in_ok-text.ensures) (sym c.is_same.ensures ∙ c.if-is_same.true)
+    fits c.args.bytes.now c.as_slice.result.now (checkpoint_in c.in_ok-checkpoint.checkpoint) (ap body_at (sym c.in-Some.ensures.some) ∙ c.in_ok-checkpoint.ensures) (c.as_slice.ensures.value ∙ c.in_ok-text.ensures ∙ ap checkpoint_text c.parts.ensures) (sym c.is_same.ensures ∙ c.if-is_same.true)
 
 pub returns : goal.returns
 returns c k is same =
-    other_text c.args.bytes.now c.as_slice.result.now (checkpoint_in c.in_ok-checkpoint.checkpoint) (ap body_at (sym c.in-Some.ensures.some) ∙ c.in_ok-checkpoint.ensures) (c.as_slice.ensures.value ∙ c.in_ok-text.ensures) (sym c.is_same.ensures ∙ c.if-is_same.false) k is same
+    other_text c.args.bytes.now c.as_slice.result.now (checkpoint_in c.in_ok-checkpoint.checkpoint) (ap body_at (sym c.in-Some.ensures.some) ∙ c.in_ok-checkpoint.ensures) (c.as_slice.ensures.value ∙ c.in_ok-text.ensures ∙ ap checkpoint_text c.parts.ensures) (sym c.is_same.ensures ∙ c.if-is_same.false) k is same
