@@ -4,6 +4,7 @@ ghost use Rattle.std.specs.Prelude.{◌≡◌, [], false, true, IfOk, OnErr, OnO
 ghost use Rattle.silo_event.specs.Asker.{asking_of};
 ghost use Rattle.silo_model.specs.Journal.{LeadsTo};
 ghost use Rattle.silo_model.specs.Opening.{new_setup, opening};
+ghost use Rattle.silo_core.specs.Reopening.{ReopensOrNot};
 ghost use Rattle.answer_model.specs.Answering.{is_asked};
 ghost use Rattle.answer_model.specs.Idle.{AllIdle, TellsAsker};
 ghost use Rattle.line_answer.specs.Dropped.{MayDrop};
@@ -186,15 +187,29 @@ impl<S: GrainStorage, L: GrainLogic> AnsweringSilo<S, L> {
         if self.grown.saturating_add(steps) < self.due {
             return;
         }
-        match self.silo.reopen(alloc) {
-            Ok(_) => {
-                let rows = self.silo.opening().len() as u64;
-                self.due = weight_of(rows, self.silo.opening_kept()).max(LEAST_HISTORY);
-                self.grown = 0;
-                self.weighed = 0;
-            }
-            Err(_) => self.due = self.due.saturating_add(LEAST_HISTORY),
+        if self.reopen(alloc).is_err() {
+            self.due = self.due.saturating_add(LEAST_HISTORY);
         }
+    }
+
+    /// The silo opens again where it is, and its history is dropped, even one that it keeps: what it has is what it opened with. It is
+    /// done unless the silo stopped: then it may be `false`, and nothing changed.
+    ///
+    /// # Errors
+    ///
+    /// Out of memory: nothing changed.
+    pub fn reopen(&mut self, alloc: Global) -> Result<bool, AllocError>
+        ensures reopens { ReopensOrNot result self.old.history self.new.history }
+        ensures ready { self.old.stopped ≡ false → IfOk result (λ done. done ≡ true) }
+        ensures stopped { self.new.stopped ≡ self.old.stopped }
+        ensures keeps { self.new.keeps ≡ self.old.keeps }
+    {
+        let done = self.silo.reopen(alloc)?;
+        let rows = self.silo.opening().len() as u64;
+        self.due = weight_of(rows, self.silo.opening_kept()).max(LEAST_HISTORY);
+        self.grown = 0;
+        self.weighed = 0;
+        Ok(done)
     }
 
     /// The silo, to look at.

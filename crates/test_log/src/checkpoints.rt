@@ -46,12 +46,13 @@ fn a_checkpoint_is_read_and_written(rt: HostRuntime) -> Result<(), Fail> {
     let Some(checkpoint) = read(alloc, TEXT.as_bytes())? else {
         return Err(Fail::from("it isn't read"));
     };
-    let sizes = (checkpoint.accounts.len(), checkpoint.grains.len());
-    let text = checkpoint_of(alloc, &checkpoint)?;
+    let kept = &checkpoint.kept;
+    let sizes = (kept.accounts.len(), kept.grains.len());
     holds(
         "its numbers",
-        sizes == (2, 3) && checkpoint.sends == 1_000 && checkpoint.clock.get() == 7,
+        sizes == (2, 3) && checkpoint.sends == 1_000 && kept.clock.get() == 7,
     )?;
+    let text = checkpoint_of(alloc, &checkpoint.parts())?;
     same(text.as_slice(), TEXT)
 }
 
