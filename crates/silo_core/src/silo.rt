@@ -20,7 +20,7 @@ use grain_logic::GrainLogic;
 use grain_storage::{GrainStorage, Row};
 use idle_collector::AgeTable;
 use silo_event::{Answer, Reply, Step};
-use silo_state::{KeptParts, SiloState, StateSetup};
+use silo_state::{KeptParts, SiloState};
 use std::alloc::{AllocError, Global};
 use std::marker::Model;
 use tenant_gate::{Age, TenantTable};
@@ -105,35 +105,10 @@ impl<S: GrainStorage + Drop, L: GrainLogic + Drop> Silo<S, L> {
         ensures failures { IfOk result (λ s. s.failures ≡ record { at_opening = S.failed setup.storage; now = S.failed setup.storage }) }
         ensures parts { IfOk result (λ s. (tenant : List ℕ) → shown_to tenant s.whole ≡ start_of s.setup tenant) }
     {
-        let Setup {
-            tenants,
-            age,
-            ages,
-            storage,
-            logic,
-        } = setup;
-        let opening = storage.list(alloc)?;
-        let opening_failures = storage.failures();
-        let kinds = ages.clone()?;
-        let begun = StateSetup {
-            tenants: tenants.list(),
-            age,
-            ages: kinds,
-            storage,
-            logic,
-            seed,
-        };
-        let state = SiloState::new(alloc, begun)?;
-        Ok(Silo {
-            tenants,
-            age,
-            ages,
-            opening,
-            kept: KeptParts::nothing(alloc),
-            opening_failures,
-            state,
-            journal: Vec::new(alloc),
-        })
+        match Silo::resumed(alloc, setup, KeptParts::nothing(alloc), seed)? {
+            Some(silo) => Ok(silo),
+            None => unreachable!(),
+        }
     }
 }
 

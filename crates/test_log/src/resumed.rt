@@ -25,7 +25,7 @@ static LINES: &str =
 {"op":"tick","now":7}
 "#;
 
-/// What tells whether anything was lost: requests are counted, the sends come, a version goes on, and grains go when they are due.
+/// What shows whether anything was lost: requests are counted, the sends come, a version goes on, and grains go when they are due.
 static NEXT: &str = r#"{"op":"status","from":"red/c1","id":7}
 {"op":"tick","now":20}
 {"op":"sweep"}
