@@ -10,8 +10,8 @@ from typing import NamedTuple, Optional
 import answer_input
 from slow_silo.answer import DEFAULT_SENDS
 from slow_silo.log import Batch, NotALog, OtherWords, Read, Words, cut_head, read_log, spelled, sum_after
-from slow_silo.logged import text_of
-from slow_silo.program import OPTIONS, setup_of, split_words, words_of
+from slow_silo.logged import text_of, words_of
+from slow_silo.program import OPTIONS, setup_of, split_words
 from slow_silo.silo import Silo
 
 # grains whose values are looked at behind a crash, at most

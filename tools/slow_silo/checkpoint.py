@@ -2,24 +2,35 @@
 
 Lists have their lengths before them. The rows, the ages and the tenants' limits stand in a journal of no step. The last line has the sum
 of all bytes before it.
+
+A text that is none is refused at its first line that fits no form in its place, behind the lines before it, counted from 1; what comes
+after the last LF is no line yet. So a length that is too great or too small is refused where a line of the list is missing or is one too
+many. The accounts are those of the journal's tenants, in their order: a `tenant` line of another is refused, and a missing one at the line
+in its place. A send's source is a grain of the account's tenant. A wrong sum is refused at the last line, and any byte behind that line at
+the next one.
 """
 
 from __future__ import annotations
 
+import re
+from functools import partial
 from typing import NamedTuple, Optional
 
-from .journal import LAST_FORM, LAST_VERSION, Misfit, fits, grain, journal_of, journal_text, message, number, split, state
+from .journal import (LAST_FORM, LAST_VERSION, MAX_NUMBER, MAX_TENANTS, Reader, RefusedAt, fits, grain, journal_of, journal_text, message,
+                      number, read_age, read_journal, read_kind, read_kinds, read_row, read_tenant, split, state)
+from .kinds import Logic, Send
 from .log import DIGITS, spelled as sum_spelled, sum_after
+from .machine import READY, Entry
 from .names import Grain, is_word
-from .silo import Silo
+from .silo import Setup, Silo
 from .values import spelled, spelled_message
 
 HEAD = "silo-checkpoint 1"
-SUM_LINE = len("sum \n") + DIGITS
+IS_SUM = re.compile("[0-9a-f]{%d}" % DIGITS, re.ASCII).fullmatch
 
 
-class NotACheckpoint(Exception):
-    """The bytes are the text of none."""
+class CheckpointRefused(RefusedAt):
+    """The first line that fits no form in its place, counted from 1."""
 
 
 class KeptSend(NamedTuple):
@@ -46,7 +57,7 @@ class KeptGrain(NamedTuple):
 
 
 class Checkpoint(NamedTuple):
-    # the sum of the checkpoint before
+    # the number of the log that it replaces
     follows: int
     # how many sends are delivered after a line
     sends: int
@@ -57,6 +68,8 @@ class Checkpoint(NamedTuple):
     # the journal of no step
     journal: bytes
 
+
+# ---- writing
 
 def checkpoint_of(silo: Silo, follows: int, sends: int) -> Checkpoint:
     """What is kept of a silo in which nothing waits and no turn is open."""
@@ -81,56 +94,136 @@ def checkpoint_text(checkpoint: Checkpoint) -> bytes:
     return body + b"sum " + sum_spelled(sum_after(0, body)) + b"\n"
 
 
-class Lines:
-    """The lines of a text, the next one first."""
+# ---- reading
 
-    def __init__(self, text: str) -> None:
-        self.rest = text
-
-    def fields(self, word: str, count: int) -> list[str]:
-        """Those behind the word of the next line."""
-        line, end, self.rest = self.rest.partition("\n")
-        fits(end)
-        first, *fields = split(line, count + 1)
-        fits(first == word)
-        return fields
-
-    def number(self, word: str, most: int = LAST_VERSION) -> int:
-        return number(*self.fields(word, 1), most=most)
+def fields(word: str, line: str, count: int) -> list[str]:
+    """Those behind the word of a line."""
+    first, *found = split(line, count + 1)
+    fits(first == word)
+    return found
 
 
-def read_send(lines: Lines) -> KeptSend:
-    source, target, said = lines.fields("send", 3)
+def read_number(word: str, least: int, most: int, line: str, _before: list) -> int:
+    return number(*fields(word, line, 1), least, most)
+
+
+def read_follows(line: str, _before: list) -> int:
+    digits, = fields("follows", line, 1)
+    fits(IS_SUM(digits))
+    return int(digits, 16)
+
+
+def read_account(line: str, _before: list) -> tuple[str, int, int]:
+    tenant, count, sends = fields("account", line, 3)
+    fits(is_word(tenant))
+    return tenant, number(count), number(sends, most=LAST_VERSION)
+
+
+def read_send(tenant: str, line: str, _before: list) -> KeptSend:
+    """What a grain of the tenant sent."""
+    source, target, said = fields("send", line, 3)
+    fits(grain(source).tenant == tenant)
     return KeptSend(grain(source), grain(target), *message(LAST_FORM, said))
 
 
-def read_account(lines: Lines) -> KeptAccount:
-    tenant, count, sends = lines.fields("account", 3)
-    fits(is_word(tenant))
-    found = number(count, most=LAST_VERSION)
-    return KeptAccount(tenant, found, tuple(read_send(lines) for _ in range(number(sends, most=LAST_VERSION))))
-
-
-def read_grain(lines: Lines) -> KeptGrain:
-    at, version, last, until, held = lines.fields("up", 5)
+def read_grain(before: Optional[Grain], line: str, _before: list) -> KeptGrain:
+    """A grain that is greater than the one before."""
+    at, version, last, until, held = fields("up", line, 5)
+    fits(before is None or before < grain(at))
     known = None if version == "-" else number(version, most=LAST_VERSION)
     return KeptGrain(grain(at), known, number(last), number(until, most=LAST_VERSION), state(LAST_FORM, held))
 
 
-def read_checkpoint(text: bytes) -> Checkpoint:
-    """The checkpoint whose text it is; NotACheckpoint if it is the text of none."""
-    body, last = text[:-SUM_LINE], text[-SUM_LINE:]
-    try:
-        fits(last == b"sum " + sum_spelled(sum_after(0, body)) + b"\n")
-        lines = Lines(body.decode("ascii"))
-        fits(lines.fields("silo-checkpoint", 1) == ["1"])
-        follows, = lines.fields("follows", 1)
-        fits(len(follows) == DIGITS)
-        sends, clock = lines.number("sends"), number(*lines.fields("clock", 1))
-        accounts = tuple(read_account(lines) for _ in range(lines.number("accounts")))
-        grains = tuple(read_grain(lines) for _ in range(lines.number("grains")))
-        found = Checkpoint(int(follows, 16), sends, clock, accounts, grains, lines.rest.encode())
-        fits(checkpoint_text(found) == text)
-    except (Misfit, ValueError) as error:
-        raise NotACheckpoint from error
+def read_named_tenant(names: list[str], line: str, before: list) -> tuple:
+    """A tenant of the journal: the one that the account in its place has."""
+    found = read_tenant(line, before)
+    fits(len(before) < len(names) and found[0] == names[len(before)])
     return found
+
+
+def take_accounts(reader: Reader) -> tuple[KeptAccount, ...]:
+    found = []
+    for _ in range(reader.next(partial(read_number, "accounts", 1, MAX_TENANTS))):
+        tenant, count, sends = reader.next(read_account)
+        found.append(KeptAccount(tenant, count, tuple(reader.next(partial(read_send, tenant)) for _ in range(sends))))
+    return tuple(found)
+
+
+def take_grains(reader: Reader) -> tuple[KeptGrain, ...]:
+    found: list[KeptGrain] = []
+    for _ in range(reader.next(partial(read_number, "grains", 0, LAST_VERSION))):
+        found.append(reader.next(partial(read_grain, found[-1].grain if found else None)))
+    return tuple(found)
+
+
+def take_journal(reader: Reader, names: list[str]) -> bytes:
+    """The text of a journal of the last form, of no step and no reply, with these tenants."""
+    begin = reader.place
+    reader.next(lambda line, _before: fits(line == f"silo-journal {LAST_FORM}"))
+    reader.next(read_kinds)
+    reader.next(read_age)
+    reader.all_that(read_kind)
+    if len(reader.all_that(partial(read_named_tenant, names))) < len(names):
+        raise reader.refused()
+    reader.all_that(partial(read_row, form=LAST_FORM))
+    reader.next(lambda line, _before: fits(line == "close 0"))
+    return reader.text(begin, reader.place)
+
+
+def read_checkpoint(text: bytes) -> Checkpoint:
+    """The checkpoint whose text it is, or CheckpointRefused."""
+    try:
+        return take_checkpoint(Reader(text))
+    except RefusedAt as refusal:
+        raise CheckpointRefused(refusal.line) from refusal
+
+
+def take_checkpoint(reader: Reader) -> Checkpoint:
+    reader.next(lambda line, _before: fits(line == HEAD))
+    follows = reader.next(read_follows)
+    sends = reader.next(partial(read_number, "sends", 0, LAST_VERSION))
+    clock = reader.next(partial(read_number, "clock", 0, MAX_NUMBER))
+    accounts, grains = take_accounts(reader), take_grains(reader)
+    journal = take_journal(reader, [account.tenant for account in accounts])
+    after = sum_spelled(sum_after(0, reader.text(0, reader.place))).decode()
+    reader.next(lambda line, _before: fits(line == f"sum {after}"))
+    if reader.place < len(reader.lines) or reader.rest:
+        raise reader.refused()
+    return Checkpoint(follows, sends, clock, accounts, grains, journal)
+
+
+def sum_of(text: bytes) -> int:
+    """The sum in the last line of a checkpoint's text."""
+    return int(text[-DIGITS - 1:-1], 16)
+
+
+# ---- going on
+
+def own_setup(checkpoint: Checkpoint) -> Setup:
+    """That of the silo that was left."""
+    journal = read_journal(checkpoint.journal)
+    return Setup(journal.tenants, journal.age, journal.ages, journal.rows, logic=Logic(journal.kinds))
+
+
+def entry_of(it: KeptGrain) -> Entry:
+    """The entry of a grain that is active and idle."""
+    entry = Entry()
+    entry.phase, entry.state, entry.version, entry.last, entry.until = READY, it.state, it.version, it.last, it.until
+    return entry
+
+
+def reopened(checkpoint: Checkpoint, setup: Setup) -> Silo:
+    """A silo that goes on from what was kept, with its rows, and these tenants, limits, ages and logic."""
+    rows = own_setup(checkpoint).rows
+    silo = Silo(setup._replace(rows=rows))
+    silo.clock = checkpoint.clock
+    for tenant in {*silo.machines, *(at.tenant for at, _row in rows)}:
+        silo.machine(tenant).clock = checkpoint.clock
+    for account in checkpoint.accounts:
+        if account.tenant in silo.limits:
+            machine = silo.machine(account.tenant)
+            machine.count = account.count
+            machine.sends = [(it.source, Send(it.target, it.method, it.args)) for it in account.sends]
+    for it in checkpoint.grains:
+        silo.machine(it.grain.tenant).entries[it.grain] = entry_of(it)
+    return silo

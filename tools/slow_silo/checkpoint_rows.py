@@ -8,7 +8,7 @@ from __future__ import annotations
 from typing import Callable
 
 from .answer import answer_line
-from .checkpoint import Checkpoint, NotACheckpoint, checkpoint_of, checkpoint_text, read_checkpoint
+from .checkpoint import Checkpoint, CheckpointRefused, checkpoint_of, checkpoint_text, read_checkpoint
 from .machine import Limits
 from .silo import Setup, Silo
 
@@ -65,7 +65,7 @@ def what_was_kept_is_read() -> bool:
 def is_none(content: bytes) -> bool:
     try:
         read_checkpoint(content)
-    except NotACheckpoint:
+    except CheckpointRefused:
         return True
     return False
 

@@ -1,4 +1,7 @@
-"""A folder of data: a log, and a lock that one process holds. On the disk, and in memory for worked rows."""
+"""A folder of data: a log, perhaps a checkpoint, and a lock that one process holds. On the disk, and in memory for worked rows.
+
+What a file is to be is written and synced under a name beside, which then replaces the file's own, and the folder is synced.
+"""
 
 from __future__ import annotations
 
@@ -11,6 +14,7 @@ from typing import Optional, Protocol
 OF_THE_OWNER = 0o600
 FOLDER_OF_THE_OWNER = 0o700
 LOCK, LOG, NEW_LOG = "lock", "log", "log.new"
+CHECKPOINT, NEW_CHECKPOINT = "checkpoint", "checkpoint.new"
 
 
 class InUse(Exception):
@@ -18,7 +22,7 @@ class InUse(Exception):
 
 
 class NotRead(Exception):
-    """The log can't be read."""
+    """The log or the checkpoint can't be read."""
 
 
 class NotWritten(Exception):
@@ -29,8 +33,14 @@ class Folder(Protocol):
     def open(self) -> Optional[bytes]:
         """Makes the folder if there is none, takes the lock, and gives the log's bytes, if there is one."""
 
+    def checkpoint(self) -> Optional[bytes]:
+        """The checkpoint's bytes, if there is one. That takes no lock."""
+
+    def place(self, checkpoint: bytes) -> None:
+        """Makes a checkpoint of these bytes, on the disk. One that was there is gone."""
+
     def begin(self, head: bytes) -> None:
-        """Makes a log of these bytes, on the disk."""
+        """Makes a log of these bytes, on the disk. One that was there is gone."""
 
     def keep(self, length: int) -> None:
         """Cuts the log to its first bytes, on the disk."""
@@ -46,14 +56,24 @@ class MemoryFolder:
     """A folder among files that are contents by their paths."""
 
     def __init__(self, files: dict, path: str):
-        self.files, self.log, self.lock = files, f"{path}/{LOG}", f"{path}/{LOCK}"
+        self.files, self.path, self.log = files, path, f"{path}/{LOG}"
 
     def open(self) -> Optional[bytes]:
-        self.files.setdefault(self.lock, b"")
+        self.files.setdefault(f"{self.path}/{LOCK}", b"")
         return self.files.get(self.log)
 
+    def checkpoint(self) -> Optional[bytes]:
+        return self.files.get(f"{self.path}/{CHECKPOINT}")
+
+    def place(self, checkpoint: bytes) -> None:
+        self.replace(NEW_CHECKPOINT, CHECKPOINT, checkpoint)
+
     def begin(self, head: bytes) -> None:
-        self.files[self.log] = head
+        self.replace(NEW_LOG, LOG, head)
+
+    def replace(self, beside: str, name: str, content: bytes) -> None:
+        self.files.pop(f"{self.path}/{beside}", None)
+        self.files[f"{self.path}/{name}"] = content
 
     def keep(self, length: int) -> None:
         self.files[self.log] = self.files[self.log][:length]
@@ -101,24 +121,41 @@ class DiskFolder:
             raise NotWritten from error
         return content
 
+    def checkpoint(self) -> Optional[bytes]:
+        try:
+            with open(os.open(f"{self.path}/{CHECKPOINT}", os.O_RDONLY | os.O_NOFOLLOW), "rb") as file:
+                return file.read()
+        except FileNotFoundError:
+            return None
+        except (OSError, ValueError) as error:
+            raise NotRead from error
+
     def opened(self, name: str, flags: int = 0) -> int:
         """A file of the folder, to be read and written at its end. It can't be a link."""
         return os.open(f"{self.path}/{name}", os.O_RDWR | os.O_APPEND | os.O_NOFOLLOW | flags, OF_THE_OWNER)
 
+    def place(self, checkpoint: bytes) -> None:
+        os.close(self.replaced(NEW_CHECKPOINT, CHECKPOINT, checkpoint))
+
     def begin(self, head: bytes) -> None:
-        beside = f"{self.path}/{NEW_LOG}"
+        old, self.log = self.log, self.replaced(NEW_LOG, LOG, head)
+        if old >= 0:
+            os.close(old)
+
+    def replaced(self, beside: str, name: str, content: bytes) -> int:
+        """The file of this name, which now has this content."""
         try:
             # what an earlier start left
             with contextlib.suppress(FileNotFoundError):
-                os.unlink(beside)
-            made = self.opened(NEW_LOG, os.O_CREAT | os.O_EXCL)
-            write_whole(made, head)
+                os.unlink(f"{self.path}/{beside}")
+            made = self.opened(beside, os.O_CREAT | os.O_EXCL)
+            write_whole(made, content)
             os.fsync(made)
-            os.rename(beside, f"{self.path}/{LOG}")
+            os.rename(f"{self.path}/{beside}", f"{self.path}/{name}")
             self.sync_names()
         except OSError as error:
             raise NotWritten from error
-        self.log = made
+        return made
 
     def keep(self, length: int) -> None:
         try:

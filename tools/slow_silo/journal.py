@@ -266,6 +266,10 @@ class Reader:
     def refused(self) -> RefusedAt:
         return RefusedAt(self.place + 1)
 
+    def text(self, begin: int, end: int) -> bytes:
+        """The text of the lines from one place to another."""
+        return b"".join(line + b"\n" for line in self.lines[begin:end])
+
     def all_that(self, read) -> list:
         """What the next lines read as, up to the first that doesn't fit."""
         found: list = []

@@ -145,6 +145,29 @@ def cut_head(words: Words, content: bytes) -> tuple:
     return number, len(head)
 
 
+class Numbered(NamedTuple):
+    # its digits
+    number: bytes
+    # the line that has it, counted from 1
+    line: int
+
+
+def numbered_head(content: bytes) -> Optional[Numbered]:
+    """The number in a log's head, whatever words the head has; none if no line has a number and the sum of the head up to there."""
+    at = content.find(b"\nof ") + 1
+    number = content[at:].partition(b"\n")[0][len(b"of "):][:DIGITS]
+    start = content[:at] + b"of " + number + b" "
+    if not at or not content.startswith(FORM) or not content.startswith(start + spelled(sum_after(0, start)) + b"\n"):
+        return None
+    return Numbered(number, content.count(b"\n", 0, at) + 1)
+
+
+def first_difference(content: bytes, wanted: bytes) -> int:
+    """The line, counted from 1, of the first byte at which bytes differ from what they should begin with."""
+    same = next((place for place, (one, other) in enumerate(zip(content, wanted)) if one != other), min(len(content), len(wanted)))
+    return content.count(b"\n", 0, same) + 1
+
+
 def read_log(words: Words, content: bytes) -> Read:
     number, at = cut_head(words, content)
     name = number[:NAME]

@@ -2,13 +2,14 @@
 
 from __future__ import annotations
 
+import os
 from typing import Callable, Iterable, NamedTuple
 
 from .answer import MAX_ANSWERED_LINES, answer_line
 from .data import Folder
 from .lines import MAX_LINE, TooMuchInput
 from .log import Place, Words, cut_head, head_text, read_log, spelled
-from .silo import Silo
+from .silo import Setup, Silo
 
 # bytes of lines, and of texts, above which a batch takes no line more
 MAX_BATCH = 1_048_576
@@ -27,15 +28,46 @@ class AnsweredOtherwise(LogRefused):
 
 
 class Answered(NamedTuple):
-    """Where the log goes on, and how many lines were answered again."""
+    """Where the log goes on, how many lines were answered again, and how many bytes of the log these and its head have."""
 
     place: Place
     lines: int
+    length: int
+
+
+class Log:
+    """The log of a folder, and where it goes on."""
+
+    def __init__(self, folder: Folder, place: Place):
+        self.folder, self.place = folder, place
+
+    def keep(self, lines: list[bytes], text: bytes) -> int:
+        """Has a batch in the log, and on the disk. Gives its length there."""
+        batch = self.place.batch(lines, text)
+        self.folder.append(batch)
+        self.folder.sync()
+        return len(batch)
+
+    def told(self) -> None:
+        """What is done once the texts of a batch are told."""
+
+    def end(self) -> None:
+        """What is done at the end of the input."""
+
+
+def words_of(setup: Setup, sends: int) -> Words:
+    """What a log says of the silo whose lines it has."""
+    tenants = tuple((tenant, limits.activations, limits.mailbox) for tenant, limits in setup.tenants)
+    return Words(setup.logic.number, sends, setup.age, setup.ages, tenants)
 
 
 def text_of(silo: Silo, line: bytes, most: int) -> bytes:
     """All that is told for a line."""
     return "".join(told + "\n" for told in answer_line(silo, line, most)).encode()
+
+
+def random_number() -> int:
+    return int.from_bytes(os.urandom(8), "little")
 
 
 def begin_log(folder: Folder, words: Words, number: int) -> Place:
@@ -44,29 +76,38 @@ def begin_log(folder: Folder, words: Words, number: int) -> Place:
     return Place(head)
 
 
-def answer_again(silo: Silo, folder: Folder, content: bytes, words: Words, most: int) -> Answered:
-    """Answers each batch again, and cuts off what stands behind the last one. A log that is refused stays as it is."""
+def answer_again(silo: Silo, content: bytes, words: Words) -> Answered:
+    """Answers each batch of a log again."""
     read = read_log(words, content)
     head = content[:cut_head(words, content)[1]]
     place, lines, number = Place(head), 0, head.count(b"\n")
     for batch in read.batches:
-        place.batch(batch.lines, b"".join(text_of(silo, line, most) for line in batch.lines))
+        place.batch(batch.lines, b"".join(text_of(silo, line, words.sends) for line in batch.lines))
         lines += len(batch.lines)
         number += len(batch.lines) + 1
         if spelled(place.told) != batch.told:
             raise AnsweredOtherwise(number)
     if read.fault is not None:
         raise LogRefused(read.fault)
-    if read.length != len(content):
-        folder.keep(read.length)
-    return Answered(place, lines)
+    return Answered(place, lines, read.length)
+
+
+def start(folder: Folder, setup: Setup, sends: int) -> tuple[Silo, Log]:
+    """The silo that the folder's log leads to; what stands behind the log's last batch is cut off. A refused log stays as it is."""
+    silo, words, content = Silo(setup), words_of(setup, sends), folder.open()
+    if content is None:
+        return silo, Log(folder, begin_log(folder, words, random_number()))
+    again = answer_again(silo, content, words)
+    if again.length != len(content):
+        folder.keep(again.length)
+    return silo, Log(folder, again.place)
 
 
 class Batch:
     """The lines that were answered since the last mark, and what is told for them."""
 
-    def __init__(self, folder: Folder, place: Place, tell: Callable[[bytes], None]):
-        self.folder, self.place, self.tell = folder, place, tell
+    def __init__(self, log: Log, tell: Callable[[bytes], None]):
+        self.log, self.tell = log, tell
         self.lines: list[bytes] = []
         self.texts: list[bytes] = []
         # of the lines as they stand in the log, and of the texts
@@ -85,16 +126,16 @@ class Batch:
         if not self.lines:
             return
         text = b"".join(self.texts)
-        self.folder.append(self.place.batch(self.lines, text))
-        self.folder.sync()
+        self.log.keep(self.lines, text)
         if text:
             self.tell(text)
         self.lines, self.texts, self.asked, self.told = [], [], 0, 0
+        self.log.told()
 
 
-def answer_logged(silo: Silo, folder: Folder, place: Place, pieces: Iterable[bytes], most: int, tell: Callable[[bytes], None]) -> None:
+def answer_logged(silo: Silo, log: Log, pieces: Iterable[bytes], most: int, tell: Callable[[bytes], None]) -> None:
     """Answers the lines of an input that comes in pieces: the whole lines that one piece brings are a batch."""
-    batch, count, rest = Batch(folder, place, tell), 0, b""
+    batch, count, rest = Batch(log, tell), 0, b""
 
     def take(line: bytes) -> None:
         nonlocal count
@@ -114,3 +155,4 @@ def answer_logged(silo: Silo, folder: Folder, place: Place, pieces: Iterable[byt
     if rest:
         take(rest)
         batch.close()
+    log.end()

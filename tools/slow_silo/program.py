@@ -2,17 +2,17 @@
 
 from __future__ import annotations
 
-import os
 from random import Random
 from typing import Callable, Iterable, NamedTuple, Optional, Union
 
-from . import codes, lines, log, logged
+from . import codes, lines, log, logged, switched
 from .answer import DEFAULT_SENDS, MAX_SENDS, answer_lines, is_asked
 from .audit import audit
+from .checkpoint import CheckpointRefused, read_checkpoint
 from .data import Folder, InUse, MemoryFolder, NotRead, NotWritten
 from .journal import (MAX_ACTIVATIONS, MAX_AGE, MAX_AGES, MAX_MAILBOX, MAX_TENANTS, RefusedAt, journal_of,
                       journal_text, migrate_journal, read_journal)
-from .kinds import NEWEST
+from .listed import listed_rows
 from .machine import Limits
 from .names import is_word
 from .serve import answers_of, lanes_of, replies_to_grains, serve
@@ -111,9 +111,10 @@ OPTIONS = {
     "serve": dict([IS_AGE, IS_AGES, IS_WORKERS, IS_PATH]),
     "audit": {},
     "migrate": {},
+    "rows": {},
 }
-# what takes no value
-FLAGS = {"answer": ["--no-sync"], "serve": ["--explain-lines", "--summary"]}
+# what takes no value; the program has no checkpoints and no `rows` yet
+FLAGS = {"answer": ["--no-sync", "--checkpoints"], "serve": ["--explain-lines", "--summary"]}
 
 
 def split_words(words: list[str], options: dict, flags: list[str]) -> tuple[dict, list[str]]:
@@ -162,6 +163,12 @@ def setup_of_words(words: list[str]) -> Setup:
     return setup_of(*split_words(words[1:], OPTIONS[words[0]], FLAGS.get(words[0], [])))
 
 
+def are_together(given: dict) -> bool:
+    """Whether these options of `answer` may stand beside one another."""
+    of_data = {"--no-sync", "--checkpoints"} & set(given)
+    return "--journal" not in given if "--data" in given else not of_data
+
+
 # ---- the commands
 
 def run_steps(given: dict, words: list[str], data: bytes, written: list[bytes]) -> None:
@@ -185,39 +192,43 @@ def run_answer(given: dict, words: list[str], data: bytes, files: dict, written:
             files[given["--journal"]] = journal_text(journal_of(silo))
 
 
-def words_of(setup: Setup, sends: int) -> log.Words:
-    """What a log says of the silo whose lines it has."""
-    tenants = tuple((tenant, limits.activations, limits.mailbox) for tenant, limits in setup.tenants)
-    return log.Words(NEWEST, sends, setup.age, setup.ages, tenants)
+# what ends a run with a folder of data, and what is then said
+FAULTS_OF_DATA = {
+    InUse: (BROKEN, "silo: the data are in use"),
+    NotRead: (BROKEN, "silo: reading failed"),
+    NotWritten: (BROKEN, "silo: writing failed"),
+    lines.TooMuchInput: (BROKEN, "silo: too much input"),
+    log.OtherWords: (BAD_WORDS, "silo: the data have other words"),
+    switched.HasTenant: (BAD_WORDS, "silo: the data have the tenant {}"),
+    switched.HasKind: (BAD_JOURNAL, "silo: the data have the kind {}"),
+    CheckpointRefused: (BAD_JOURNAL, "silo: checkpoint line {} is refused"),
+    switched.LogMissing: (BAD_JOURNAL, "silo: the log is missing"),
+    log.NotALog: (BAD_JOURNAL, "silo: log line 1 is refused"),
+    logged.LogRefused: (BAD_JOURNAL, "silo: log line {} is refused"),
+    logged.AnsweredOtherwise: (BAD_JOURNAL, "silo: log line {} is answered otherwise"),
+}
 
 
-def run_data(given: dict, words: list[str], data: Union[bytes, Iterable[bytes]], folder: Folder, written: list[bytes]) -> None:
-    """`answer` with a folder of data: what was answered before is answered again, and then the input."""
+def run_data(given: dict, words: list[str], data: Union[bytes, Iterable[bytes]], folder: Folder, written: list[bytes],
+             most_log: int) -> None:
+    """`answer` with a folder of data: it goes on from what was answered before, and answers the input."""
     setup, most = setup_of(given, words), int(given.get("--sends", DEFAULT_SENDS))
-    silo, told = Silo(setup), words_of(setup, most)
     try:
-        content = folder.open()
-        if content is None:
-            place = logged.begin_log(folder, told, int.from_bytes(os.urandom(8), "little"))
-        else:
-            place = logged.answer_again(silo, folder, content, told, most).place
-        logged.answer_logged(silo, folder, place, pieces_of(data), most, written.append)
-    except InUse as error:
-        raise Ended(BROKEN, "silo: the data are in use") from error
-    except NotRead as error:
-        raise Ended(BROKEN, "silo: reading failed") from error
-    except NotWritten as error:
-        raise Ended(BROKEN, "silo: writing failed") from error
-    except lines.TooMuchInput as error:
-        raise Ended(BROKEN, "silo: too much input") from error
-    except log.OtherWords as error:
-        raise Ended(BAD_WORDS, "silo: the data have other words") from error
-    except log.NotALog as error:
-        raise Ended(BAD_JOURNAL, "silo: log line 1 is refused") from error
-    except logged.AnsweredOtherwise as error:
-        raise Ended(BAD_JOURNAL, f"silo: log line {error.line} is answered otherwise") from error
-    except logged.LogRefused as error:
-        raise Ended(BAD_JOURNAL, f"silo: log line {error.line} is refused") from error
+        silo, kept = switched.start(folder, setup, most, most_log) if "--checkpoints" in given else logged.start(folder, setup, most)
+        logged.answer_logged(silo, kept, pieces_of(data), most, written.append)
+    except tuple(FAULTS_OF_DATA) as error:
+        status, says = FAULTS_OF_DATA[type(error)]
+        raise Ended(status, says.format(*error.args)) from error
+
+
+def run_rows(words: list[str], folder: Folder) -> bytes:
+    """What the checkpoint of a folder has, of all tenants or of one."""
+    try:
+        text = folder.checkpoint()
+        return b"" if text is None else listed_rows(read_checkpoint(text), *words)
+    except (NotRead, CheckpointRefused) as error:
+        status, says = FAULTS_OF_DATA[type(error)]
+        raise Ended(status, says.format(*error.args)) from error
 
 
 def pieces_of(data: Union[bytes, Iterable[bytes]]) -> Iterable[bytes]:
@@ -310,14 +321,18 @@ def run_audit(words: list[str], files: dict) -> tuple[bytes, int]:
 
 def run_program(words: list[str], data: Union[bytes, Iterable[bytes]] = b"", files: Optional[dict] = None,
                 chance: Optional[Random] = None, written: Optional[list[bytes]] = None,
-                folder_at: Optional[Callable[[str, bool], Folder]] = None) -> Run:
+                folder_at: Optional[Callable[[str, bool], Folder]] = None, most_log: int = switched.MOST_LOG) -> Run:
     """A run on this standard input; `files` are the contents of the files that there are, by their paths.
 
     With a chance, `serve` does its steps in any order. The input of `answer` may come in pieces, and what is written goes
     to `written`, if it is given, as each line is answered. A folder of data is among the files, or is what `folder_at` gives for
-    its path, and for whether it is synced.
+    its path, and for whether it is synced. With checkpoints, a log is replaced once it has more than `most_log` bytes of batches.
     """
     files = dict(files or {})
+
+    def folder_of(path: str, is_synced: bool = True) -> Folder:
+        return folder_at(path, is_synced) if folder_at else MemoryFolder(files, path)
+
     if asks_for_help(words):
         return Run(None, b"", FINE, files)
     if words in [["--version"], ["-V"]]:
@@ -330,17 +345,19 @@ def run_program(words: list[str], data: Union[bytes, Iterable[bytes]] = b"", fil
         given, others = split_words(words[1:], OPTIONS[words[0]], FLAGS.get(words[0], []))
         if words[0] == "steps":
             run_steps(given, others, data, written)
-        elif words[0] == "answer" and ("--no-sync" in given and "--data" not in given or {"--data", "--journal"} <= set(given)):
+        elif words[0] == "answer" and not are_together(given):
             raise Ended(BAD_WORDS)
         elif "--data" in given:
-            path = given["--data"]
-            folder = folder_at(path, "--no-sync" not in given) if folder_at else MemoryFolder(files, path)
-            run_data(given, others, data, folder, written)
+            run_data(given, others, data, folder_of(given["--data"], "--no-sync" not in given), written, most_log)
         elif words[0] == "answer":
             run_answer(given, others, data, files, written)
         elif words[0] == "serve":
             out, errors = run_serve(given, others, data, files, chance)
             written.append(out)
+        elif words[0] == "rows":
+            if not 1 <= len(others) <= 2 or not all(map(is_word, others[1:])):
+                raise Ended(BAD_WORDS)
+            written.append(run_rows(others[1:], folder_of(others[0])))
         elif words[0] == "migrate":
             written.append(read_with(migrate_journal, others, files))
         else:
