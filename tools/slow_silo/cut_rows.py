@@ -23,7 +23,7 @@ from .checkpoint import checkpoint_of, checkpoint_text, sum_of
 from .data import DiskFolder, Folder, MemoryFolder
 from .lines import ReaderFailed
 from .log import numbered_head, spelled
-from .program import Run, run_program
+from .program import FAULTS_OF_DATA, Run, run_program
 from .silo import Silo
 from .switched import MOST_LOG
 from .switch_rows import STORY, STORY_WORDS, answers_of, left_by, lines_text, setup_and_most
@@ -217,10 +217,13 @@ def state_text(silo: Silo) -> bytes:
     return checkpoint_text(checkpoint_of(silo, 0, 0))
 
 
-def reading_of(files: dict, words: Sequence[str]) -> bytes:
-    """Where a folder leads."""
+def reading_of(files: dict, words: Sequence[str]) -> Optional[bytes]:
+    """Where a folder leads; none if it is refused."""
     setup, most = setup_and_most(words)
-    silo, _log = switched.start(MemoryFolder(dict(files), "d"), setup, most, MOST)
+    try:
+        silo, _log = switched.start(MemoryFolder(dict(files), "d"), setup, most, MOST)
+    except tuple(FAULTS_OF_DATA):
+        return None
     return state_text(silo)
 
 
