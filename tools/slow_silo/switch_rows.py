@@ -6,6 +6,9 @@ holds. `cut_rows` has lives that end at each call.
 
 from __future__ import annotations
 
+import pathlib
+import stat
+import tempfile
 from typing import Callable, Iterable, Iterator, Sequence
 from unittest import mock
 
@@ -13,7 +16,7 @@ from . import logged
 from .answer import answer_line
 from .checkpoint import checkpoint_of, checkpoint_text, read_checkpoint, sum_of
 from .checkpoint_rows import TEXT
-from .data import MemoryFolder
+from .data import DiskFolder, MemoryFolder
 from .data_rows import ADD, FIRST, GET, MORE, NUMBER, SECOND, TWO, WORDS, log_of
 from .lines import ReaderFailed
 from .log import Words, cut_head, head_with, spelled, sum_after
@@ -184,7 +187,15 @@ NARROW = ["answer", "--data", "d", "--checkpoints", "red:1:1"]
 NARROW_POINT = changed(TWO_ACTIVE, of(TWO_ACTIVE), "red 2 4", "red 1 1")
 KEPT_WIDE = ["answer", "--data", "d", "--checkpoints", "red:9:4"]
 LEFT_WAITING = point(SENT, words=WAITING)
+# kept and logged when grains couldn't rest yet
+OLD_WORDS = words_said(KEPT)._replace(kinds=1)
+OLD_POINT = changed(FIRST_POINT, NUMBER, "kinds 2", "kinds 1")
+RESTS = call(2, A, "rest")
 OTHER_WORDS = [
+    row("an older version's lines are answered again by that version, and then there is a checkpoint of the newest",
+        {"d/checkpoint": OLD_POINT, "d/log": log_of((RESTS, no(2, 60, "method is unknown")), words=OLD_WORDS, number=of(OLD_POINT))},
+        RESTS + status(3), ok(2, None) + seen(3, 0, 0, 3),
+        after(changed(point(ADD + MORE + RESTS), of(changed(point(ADD + GET), of(OLD_POINT)))))),
     reopened("more tenants in another order, other limits, ages and deliveries", ADD, WIDER),
     reopened("a tenant of which nothing is kept may be left out", tick(3) + status(1) + call(1, "clock/blue:a", "get", None, BLUE),
              KEPT, BOTH),
@@ -314,14 +325,14 @@ REFUSED = [
 # ---- rows of a folder
 
 HELD = point(SAVED + call(4, "counter/red:b", "stay", {"for": 9}) + poke(5, "counter/blue:a", 4, BLUE)
-             + poke(6, SHEET, {"z": "\u00e9\n", "b": [None]}) + call(7, "counter/red:c", "save") + call(8, "counter/red:c", "clear"), words=["answer", "red:9:4", "blue:1:1"])
+             + poke(6, SHEET, {"z": "\u00e9\n", "b": [None, {"$hex": "00ff"}]}) + call(7, "counter/red:c", "save") + call(8, "counter/red:c", "clear"), words=["answer", "red:9:4", "blue:1:1"])
 OF_BLUE = '{"row":"counter/blue:a","version":1,"state":4}'
 LISTED = [
     Row("the rows and the active grains of a folder, ascending", ["rows", "d"], [],
         [OF_BLUE, '{"row":"counter/red:a","version":1,"state":3}', '{"active":"counter/red:a","version":1,"last":0,"until":0,"state":3}',
          '{"active":"counter/red:b","version":null,"last":0,"until":9,"state":0}', '{"row":"counter/red:c","version":2}',
          '{"active":"counter/red:c","version":2,"last":0,"until":0,"state":0}',
-         '{"row":"sheet/red:s","version":2,"state":{"b":[null],"z":"\u00e9\\n"}}',
+         '{"row":"sheet/red:s","version":2,"state":{"b":[null,{"$hex":"00ff"}],"z":"\u00e9\\n"}}',
          '{"active":"sheet/red:s","version":1,"last":0,"until":0,"state":{}}'],
         files={"d/checkpoint": HELD}, files_after={"d/checkpoint": HELD}),
     Row("those of one tenant", ["rows", "d", "blue"], [], [OF_BLUE], files={"d/checkpoint": HELD}),
@@ -449,8 +460,59 @@ def a_run_for_each_line_answers_what_one_run_does() -> bool:
     return told == answers_of(STORY)
 
 
+# ---- on the disk
+
+def on_disk(path: pathlib.Path, words: Sequence[str], lines: list) -> tuple:
+    """What is told, on both streams, and the status, of a process in whose folder's place `d` stands."""
+    held: list = []
+
+    def folder_at(_place: str, is_synced: bool) -> DiskFolder:
+        held.append(DiskFolder(str(path), is_synced))
+        return held[0]
+
+    run = run_program(list(words), lines_text(lines), folder_at=folder_at)
+    held[0].close()
+    return run.out, run.errors, run.status
+
+
+def a_checkpoint_on_the_disk_is_its_owners_and_goes_on() -> bool:
+    with tempfile.TemporaryDirectory() as folder:
+        place = pathlib.Path(folder, "data")
+        told = [on_disk(place, KEPT, lines) for lines in (ADD, MORE, [])]
+        modes = {file.name: stat.S_IMODE(file.stat().st_mode) for file in place.iterdir()}
+    return told == [(lines_text(ok(1, 3)), b"", 0), (lines_text(ok(2, 7)), b"", 0), (b"", b"", 0)] and modes == {
+        "checkpoint": 0o600, "lock": 0o600, "log": 0o600}
+
+
+def rows_are_listed_while_a_silo_has_the_folder() -> bool:
+    with tempfile.TemporaryDirectory() as folder:
+        place = pathlib.Path(folder)
+        (place / "checkpoint").write_text(HELD)
+        holder = DiskFolder(folder)
+        holder.open()
+        found = on_disk(place, ["rows", "d", "blue"], []), on_disk(place, KEPT, [])
+        holder.close()
+        return found == ((lines_text([OF_BLUE]), b"", 0), (b"", b"silo: the data are in use\n", 1))
+
+
+def a_checkpoint_that_is_a_link_is_not_read() -> bool:
+    """What a link that was left beside leads to is kept."""
+    found = []
+    for name in ("checkpoint", "checkpoint.new"):
+        with tempfile.TemporaryDirectory() as folder:
+            place, aside = pathlib.Path(folder, "data"), pathlib.Path(folder, "aside")
+            aside.write_text(FIRST_POINT)
+            place.mkdir()
+            (place / name).symlink_to("../aside")
+            told = [on_disk(place, words, lines)[1:] for words, lines in ((["rows", "d"], []), (KEPT, ADD))]
+            found.append((told, aside.read_text() == FIRST_POINT))
+    return found == [([(b"silo: reading failed\n", 1)] * 2, True), ([(b"", 0)] * 2, True)]
+
+
 SWITCH_CALLS: tuple[Callable[[], bool], ...] = (
     a_new_folder_has_a_checkpoint_of_its_lines, a_new_folder_that_is_asked_nothing_has_a_log_alone,
     a_log_that_is_longer_than_it_may_be_is_replaced, a_log_that_is_no_longer_than_the_checkpoint_is_not_replaced,
     an_input_that_fails_leaves_no_checkpoint, so_does_one_that_is_too_long, a_run_answers_the_same_whenever_it_is_switched,
-    so_do_two_runs_wherever_the_first_one_ends, a_run_for_each_line_answers_what_one_run_does)
+    so_do_two_runs_wherever_the_first_one_ends, a_run_for_each_line_answers_what_one_run_does,
+    a_checkpoint_on_the_disk_is_its_owners_and_goes_on, rows_are_listed_while_a_silo_has_the_folder,
+    a_checkpoint_that_is_a_link_is_not_read)
