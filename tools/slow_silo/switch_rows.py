@@ -211,7 +211,8 @@ OTHER_WORDS = [
     left_out("a row was stored", poke(1, A, 1)),
     left_out("an activation, what it sent, and a row", SENT + SAVED),
     refused("the least of those that are left out is told",
-            after(point(ADD + call(1, "counter/blue:a", "get", None, BLUE), words=BOTH), BOTH), 2, "the data have the tenant blue", ["answer", "--data", "d", "--checkpoints", "c:1:1"]),
+            after(point(ADD + call(1, "counter/blue:a", "get", None, BLUE), words=BOTH), BOTH), 2,
+            "the data have the tenant blue", ["answer", "--data", "d", "--checkpoints", "c:1:1"]),
     refused("a stale log then stays as it is", STALE, 2, OF_RED, BLUE_ONLY),
     refused("so does a log with a torn end", {**BEHIND, "d/log": BATCH + "+{"}, 2, OF_RED, BLUE_ONLY),
     refused("a log that goes on from nothing has the silo's words", {"d/log": TWO}, 2, "the data have other words", WIDER),
@@ -325,7 +326,8 @@ REFUSED = [
 # ---- rows of a folder
 
 HELD = point(SAVED + call(4, "counter/red:b", "stay", {"for": 9}) + poke(5, "counter/blue:a", 4, BLUE)
-             + poke(6, SHEET, {"z": "\u00e9\n", "b": [None, {"$hex": "00ff"}]}) + call(7, "counter/red:c", "save") + call(8, "counter/red:c", "clear"), words=["answer", "red:9:4", "blue:1:1"])
+             + poke(6, SHEET, {"z": "\u00e9\n", "b": [None, {"$hex": "00ff"}]}) + call(7, "counter/red:c", "save")
+             + call(8, "counter/red:c", "clear"), words=["answer", "red:9:4", "blue:1:1"])
 OF_BLUE = '{"row":"counter/blue:a","version":1,"state":4}'
 LISTED = [
     Row("the rows and the active grains of a folder, ascending", ["rows", "d"], [],
