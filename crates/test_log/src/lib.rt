@@ -10,6 +10,4 @@ mod laws;
 #[cfg(test)]
 mod restarts;
 #[cfg(test)]
-mod resumed;
-#[cfg(test)]
 mod texts;
