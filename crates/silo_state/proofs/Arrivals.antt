@@ -18,7 +18,7 @@ use Rattle.silo_model.specs.Calls.{with_request}
 use Rattle.silo_state.specs.Shown.{request_of, entry_of, entries_of}
 use Rattle.silo_state.specs.Marks.{IsMarked, AreMarked, AllMarked}
 use Rattle.silo_model.specs.Idle.{is_idle}
-use Rattle.silo_state.specs.inside.Arrivals.{arrived, IsFirst, EntersFirst}
+use Rattle.silo_state.specs.inside.Arrivals.{arrived, IsFirst}
 use Rattle.silo_state.specs.inside.Notes.{IsInTime, AreNoted}
 use Rattle.silo_state.proofs.Idle.{in_time_by, note_moves, now_noted, still_noted}
 use Rattle.silo_state.proofs.Requests.{marked-put}
@@ -100,13 +100,13 @@ module _ (logic : Logic) (m : FinMap grain_cmp Activation) (g : Grain) (request 
     first_in_time : (age : ℕ) → noted ≡ clock + age → IsInTime clock age after
     first_in_time age told = in_time_by clock age a noted (omega (arith, told)) (λ idle. absurd (true≢false (sym idle ∙ ap (λ (x : Activation). is_idle (entry_of x)) is)))
 
-  module _ (noted : ℕ) (new : FinMap grain_cmp Activation) (e : EntersFirst m g request clock noted new) (absent : map.get m g ≡ None) where
+  module _ (a : Activation) (is : IsFirst request clock a) (noted : ℕ) (new : FinMap grain_cmp Activation) (put : new ≡ map.insert m g (record a { noted = noted })) (absent : map.get m g ≡ None) where
     pub enter_shows : entries_of new ≡ waits
-    enter_shows = ap entries_of e.put ∙ first_shows e.first e.is_first noted absent
+    enter_shows = ap entries_of put ∙ first_shows a is noted absent
 
     pub enter_marked : AllMarked logic m → logic.knows g.kind ≡ true → IsMarked logic g request → AllMarked logic new
-    enter_marked all known mark = subst (AllMarked logic) (sym e.put) (first_marked e.first e.is_first noted absent all known mark)
+    enter_marked all known mark = subst (AllMarked logic) (sym put) (first_marked a is noted absent all known mark)
 
     pub enter_noted : (age_of : List ℕ → ℕ) (moments later : FinMap grain_cmp ℕ) → AreNoted clock age_of m moments → noted ≡ clock + age_of g.kind → later ≡ map.insert moments g noted → AreNoted clock age_of new later
-    enter_noted age_of moments later all told is =
-        subst (λ k. AreNoted clock age_of k later) (sym e.put) (note_moves clock age_of m moments all g (record e.first { noted = noted }) later is (first_in_time e.first e.is_first noted absent (age_of g.kind) told))
+    enter_noted age_of moments later all told later_is =
+        subst (λ k. AreNoted clock age_of k later) (sym put) (note_moves clock age_of m moments all g (record a { noted = noted }) later later_is (first_in_time a is noted absent (age_of g.kind) told))

@@ -3,10 +3,14 @@ use Rattle.std.proofs.Common.{◌≡◌, ℕ, ◌+◌, ◌<◌, Bool, true, fals
 use Rattle.std.specs.Prelude.{option_map, slice_get}
 use Rattle.std.specs.FinMap as map
 use Rattle.std.specs.FinMap.{FinMap}
+use Rattle.std.specs.List.Sorted.{IsStrictlySortedBy}
+use Rattle.std.specs.Map.{keys_of}
 use Rattle.std.specs.Ordering.{eq_by_cmp}
 use Rattle.std.specs.BTreeMap.{BTreeMap, Updates}
+use Rattle.std.proofs.lemmas.Map.Made.{keys_of-map_values}
 use Rattle.std.proofs.lemmas.Option.{none-some, same_Some, slice_get_cases}
 use Rattle.finite_maps.specs.Mapped.{map_values, with_values}
+use Rattle.finite_maps.proofs.Ascending.{entries-ascending}
 use Rattle.finite_maps.proofs.Entries.{seen-insert}
 use Rattle.finite_maps.proofs.Keys.{eq_by_cmp-Decides, keys_by_order}
 use Rattle.finite_maps.proofs.Mapped.{get-mapped}
@@ -106,3 +110,12 @@ module _ {X : Type 0} (all : FinMap grain_cmp X) (order : List Grain) (place : �
         part_put all some g v at so_far.0,
         one_more (HasAllOf all (map.insert some g v)) order place g (λ k q less found. all_of_put all some g v at q (so_far.1 k q less found)) stands (all_of_one all some g v at),
       )
+
+-- ---- as a list
+
+-- grains that ascend are listed in the order of the map
+pub in_order : (grains : List (Grain × GrainParts)) (all : FinMap grain_cmp KeptGrain) → IsStrictlySortedBy grain_cmp (keys_of grains) → grains_in grains ≡ all
+    → with_values kept_grain_in grains ≡ map.entries all
+in_order grains all ascending is =
+    sym (entries-ascending grain_cmp_total grain_cmp_exact (with_values kept_grain_in grains) (subst (IsStrictlySortedBy grain_cmp) (sym (keys_of-map_values kept_grain_in grains)) ascending))
+    ∙ ap map.entries is

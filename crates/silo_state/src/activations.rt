@@ -20,6 +20,7 @@ use tenant_gate::Age;
 
 mod accept;
 mod close;
+mod entering;
 mod idle;
 mod kept;
 mod resumed;

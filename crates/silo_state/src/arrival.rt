@@ -28,7 +28,7 @@ pub fn arrive(
 }
 
 /// An activation that waits to be activated, with one request. Its mailbox grows as more wait.
-#[inline(always)]
+#[inline(never)]
 pub fn first(alloc: Global, request: Request, clock: Moment) -> Result<Activation, AllocError>
     ensures { IfOk result (λ a. IsFirst request clock a) }
 {

@@ -1,7 +1,6 @@
 //! What a silo holds of all its tenants.
 
-ghost use Rattle.std.specs.Prelude.{◌≡◌, IfOk};
-ghost use Rattle.silo_model.specs.Opening.{new_setup, opening};
+ghost use Rattle.std.specs.Prelude.{◌≡◌};
 
 use crate::activations::Activations;
 use grain_id::{HashSeed, Tenant};
@@ -9,7 +8,6 @@ use grain_logic::GrainLogic;
 use grain_storage::GrainStorage;
 use idle_collector::AgeTable;
 use silo_event::{Moment, Reply};
-use std::alloc::{AllocError, Global};
 use std::marker::Model;
 use tenant_accounts::Accounts;
 use tenant_gate::{Age, Limits};
@@ -71,36 +69,6 @@ pub(crate) fn beginning() -> Moment
     match Moment::new(0) {
         Some(moment) => moment,
         None => unreachable!(),
-    }
-}
-
-impl<S: GrainStorage + Drop, L: GrainLogic + Drop> SiloState<S, L> {
-    /// Nothing is asked yet, and nothing answered.
-    ///
-    /// # Errors
-    ///
-    /// Out of memory.
-    pub fn new(alloc: Global, setup: StateSetup<'_, S, L>) -> Result<SiloState<S, L>, AllocError>
-        ensures { IfOk result (λ b. b ≡ record {
-          whole = opening (new_setup setup.entry.tenants.now setup.entry.age setup.entry.ages (S.rows setup.entry.storage));
-          failures = S.failed setup.entry.storage;
-        }) }
-    {
-        let StateSetup {
-            tenants,
-            age,
-            ages,
-            storage,
-            logic,
-            seed,
-        } = setup;
-        Ok(SiloState {
-            accounts: Accounts::new(alloc, tenants)?,
-            activations: Activations::new(alloc, beginning(), age, ages, seed),
-            storage,
-            logic,
-            replies: Vec::new(alloc),
-        })
     }
 }
 

@@ -5,7 +5,7 @@ use checkpoint_text::{Checkpoint, CheckpointFault, checkpoint_of, read_checkpoin
 use std::alloc::{AllocError, Global};
 use std::test::Fail;
 
-static TEXT: &str = "silo-checkpoint 1
+pub static TEXT: &str = "silo-checkpoint 1
 follows 0123456789abcdef
 sends 1000
 clock 7

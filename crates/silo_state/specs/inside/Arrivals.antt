@@ -1,7 +1,6 @@
 -- What becomes of an activation where a request comes.
 use Rattle.std.specs.Prelude.{◌≡◌, ℕ, false, [], ◌∷◌, ◌++◌}
 use Rattle.std.specs.FinMap as map
-use Rattle.std.specs.FinMap.{FinMap}
 use Rattle.grain_id.specs.Names.{Grain, grain_cmp}
 use Rattle.turn_mailbox.specs.declared.request.Request.{Request}
 use Rattle.activation_directory.specs.declared.activation.Activation.{Activation}
@@ -26,13 +25,6 @@ IsFirst request clock a =
       resting = false;
       noted = 0;
     }
-
--- The grain gets an activation, at which that request alone waits from this moment on, and which is noted so.
-pub record EntersFirst (old : FinMap grain_cmp Activation) (grain : Grain) (request : Request) (clock noted : ℕ)
-    (new : FinMap grain_cmp Activation) : Type 0 where
-  pub first : Activation
-  pub is_first : IsFirst request clock first
-  pub put : new ≡ map.insert old grain (record first { noted = noted })
 
 -- the request waits last at the grain, from this moment on
 abbrev pub with_waiting : Entries → Grain → model.Request → ℕ → Entries

@@ -1,18 +1,17 @@
 //! How requests reach an activation.
 
-ghost use Rattle.std.specs.Prelude.{◌≡◌, None, true, OnOk, OnErr, length};
+ghost use Rattle.std.specs.Prelude.{◌≡◌, true, OnOk, OnErr, length};
 ghost use Rattle.std.specs.Option.{option_map};
 ghost use Rattle.std.specs.FinMap as map;
-ghost use Rattle.silo_state.specs.inside.Arrivals.{EntersFirst, with_waiting};
+ghost use Rattle.silo_state.specs.inside.Arrivals.{with_waiting};
 ghost use Rattle.silo_state.specs.Shown.{request_of};
 ghost use Rattle.silo_state.specs.Marks.{IsMarked};
 
 use crate::activations::Activations;
+use crate::activations::entering::enter;
 use crate::{arrival, change};
-use activation_directory::Directory;
 use grain_id::GrainId;
 use grain_logic::GrainLogic;
-use silo_event::Moment;
 use std::alloc::{AllocError, Global};
 use turn_mailbox::Request;
 
@@ -51,40 +50,10 @@ impl<L: GrainLogic> Activations<L> {
             return arrival::arrive(activation, request, self.clock);
         }
         let due = change::due_if_used(grain, self.clock, &self.ages, self.age);
+        let first = arrival::first(alloc, request, self.clock)?;
         self.collector.expect(grain)?;
-        enter(alloc, &mut self.directory, grain, request, self.clock, due)?;
+        enter(alloc, &mut self.directory, grain, first, due)?;
         self.collector.note_expected(due);
         Ok(())
     }
-}
-
-/// The grain gets an activation, which was used at this moment and is noted with that one, and at which the request waits.
-///
-/// # Errors
-///
-/// Out of memory: nothing changed.
-#[inline(never)]
-fn enter(
-    alloc: Global,
-    directory: &mut Directory,
-    grain: &GrainId,
-    request: Request,
-    clock: Moment,
-    noted: u64,
-) -> Result<(), AllocError>
-    requires { map.get directory.old.activations grain.now ≡ None }
-    ensures entered { OnOk result (EntersFirst directory.old.activations grain.now request clock noted directory.new.activations) }
-    ensures unchanged { OnErr result (directory.new.activations ≡ directory.old.activations) }
-{
-    let named = grain.clone()?;
-    let mut activation = arrival::first(alloc, request, clock)?;
-    activation.noted = noted;
-    match directory.insert(alloc, named, activation) {
-        Ok(()) => {}
-        Err(refused) => {
-            drop(refused);
-            return Err(AllocError);
-        }
-    }
-    Ok(())
 }

@@ -1,12 +1,14 @@
 //! Whether all activations are idle, and what is kept of them then.
 
 ghost use Rattle.std.specs.Prelude.{◌≡◌, ◌↔◌, true, IfOk, IsTrue, OnOk};
+ghost use Rattle.std.specs.BTreeMap.{IsOrdered};
 ghost use Rattle.std.specs.FinMap as map;
-ghost use Rattle.finite_maps.specs.Mapped.{map_values};
+ghost use Rattle.finite_maps.specs.Mapped.{map_values, with_values};
+ghost use Rattle.grain_id.specs.Names.{grain_cmp};
 ghost use Rattle.silo_model.specs.Collected.{AllIdle};
 ghost use Rattle.silo_model.specs.Idle.{is_idle};
 ghost use Rattle.silo_model.specs.Segments.{kept_grain};
-ghost use Rattle.silo_state.specs.KeptParts.{grains_in};
+ghost use Rattle.silo_state.specs.KeptParts.{grains_in, kept_grain_in};
 ghost use Rattle.silo_state.specs.Shown.{entry_of};
 
 use crate::activations::Activations;
@@ -41,7 +43,8 @@ impl<L: GrainLogic> Activations<L> {
     /// Out of memory.
     fn kept_by_grain(&self, alloc: Global) -> Result<BTreeMap<GrainId, GrainParts>, AllocError>
         requires { AllIdle self.now.entries }
-        ensures { IfOk result (λ grains. grains_in grains.entries ≡ map_values kept_grain self.now.entries) }
+        ensures kept { IfOk result (λ grains. grains_in grains.entries ≡ map_values kept_grain self.now.entries) }
+        ensures ordered { IfOk result (λ grains. IsOrdered grain_cmp grains) }
     {
         let mut grains = BTreeMap::new(alloc);
         'places: for place in 0..self.directory.len() {
@@ -50,6 +53,8 @@ impl<L: GrainLogic> Activations<L> {
             };
             put_grain(&mut grains, grain, activation)?;
         }
+        // For the proof: grains ascend.
+        let _ = grains.len();
         Ok(grains)
     }
 
@@ -60,7 +65,9 @@ impl<L: GrainLogic> Activations<L> {
     /// Out of memory.
     pub fn kept(&self, alloc: Global) -> Result<Vec<(GrainId, GrainParts)>, AllocError>
         requires { AllIdle self.now.entries }
-        ensures { IfOk result (λ grains. grains_in grains.items ≡ map_values kept_grain self.now.entries) }
+        ensures kept { IfOk result (λ grains. grains_in grains.items ≡ map_values kept_grain self.now.entries) }
+        ensures ascending { IfOk result (λ grains.
+            with_values kept_grain_in grains.items ≡ map.entries (map_values kept_grain self.now.entries)) }
     {
         let grains = self.kept_by_grain(alloc)?;
         listed(alloc, grains)

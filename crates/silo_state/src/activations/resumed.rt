@@ -1,7 +1,6 @@
 //! Activations that are opened with what was kept of others.
 
-ghost use Rattle.std.specs.Prelude.{◌≡◌, true, IfOk, None, OnErr, OnOk};
-ghost use Rattle.std.specs.FinMap as map;
+ghost use Rattle.std.specs.Prelude.{◌≡◌, true, IfOk, OnErr, OnOk};
 ghost use Rattle.finite_maps.specs.Mapped.{map_values};
 ghost use Rattle.idle_collector.specs.Ages.{kind_age};
 ghost use Rattle.silo_model.specs.Opening.{awake};
@@ -9,9 +8,10 @@ ghost use Rattle.silo_state.specs.KeptParts.{AllKnown, grains_in, kept_grain_in}
 ghost use Rattle.silo_state.specs.inside.Resuming.{IsIdleFrom, with_idle};
 
 use crate::activations::Activations;
+use crate::activations::entering::enter;
 use crate::change;
 use crate::parts::GrainParts;
-use activation_directory::{Activation, Directory, Phase};
+use activation_directory::{Activation, Phase};
 use grain_id::{GrainId, HashSeed};
 use grain_logic::GrainLogic;
 use idle_collector::AgeTable;
@@ -92,32 +92,4 @@ fn idle_from(alloc: Global, parts: &GrainParts) -> Result<Activation, AllocError
         resting: false,
         noted: 0,
     })
-}
-
-/// The grain gets the activation, which is noted with this moment.
-///
-/// # Errors
-///
-/// Out of memory: nothing changed.
-fn enter(
-    alloc: Global,
-    directory: &mut Directory,
-    grain: &GrainId,
-    mut activation: Activation,
-    noted: u64,
-) -> Result<(), AllocError>
-    requires { map.get directory.old.activations grain.now ≡ None }
-    ensures entered { OnOk result (directory.new.activations
-        ≡ map.insert directory.old.activations grain.now (record activation { noted = noted })) }
-    ensures unchanged { OnErr result (directory.new.activations ≡ directory.old.activations) }
-{
-    let named = grain.clone()?;
-    activation.noted = noted;
-    match directory.insert(alloc, named, activation) {
-        Ok(()) => Ok(()),
-        Err(refused) => {
-            drop(refused);
-            Err(AllocError)
-        }
-    }
 }

@@ -1,9 +1,11 @@
 //! What a silo keeps when it is opened again where it is, and what it drops.
 
 ghost use Rattle.std.specs.Prelude.{◌≡◌, ◌↔◌, IfOk, IfSome, IsSome, IsTrue};
+ghost use Rattle.std.specs.FinMap.{entries};
+ghost use Rattle.finite_maps.specs.Mapped.{with_values};
 ghost use Rattle.silo_model.specs.Collected.{AllIdle};
 ghost use Rattle.silo_model.specs.Segments.{kept_of, untold};
-ghost use Rattle.silo_state.specs.KeptParts.{kept_in};
+ghost use Rattle.silo_state.specs.KeptParts.{kept_grain_in, kept_in};
 
 use crate::parts::KeptParts;
 use crate::state::SiloState;
@@ -27,6 +29,8 @@ impl<S: GrainStorage, L: GrainLogic> SiloState<S, L> {
     /// Out of memory.
     pub fn kept(&self, alloc: Global) -> Result<Option<KeptParts>, AllocError>
         ensures kept { IfOk result (λ found. IfSome found (λ parts. kept_in parts ≡ kept_of self.now.whole)) }
+        ensures ascending { IfOk result (λ found. IfSome found (λ parts.
+            with_values kept_grain_in parts.grains.items ≡ entries (kept_of self.now.whole).grains)) }
         ensures at_rest { IfOk result (λ found. IsSome found ↔ AllIdle self.now.whole.entries) }
     {
         if !self.is_at_rest() {

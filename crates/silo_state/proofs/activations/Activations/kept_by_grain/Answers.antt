@@ -31,8 +31,8 @@ places-preserved g c =
     one_kept all directory.order c.places.place (grains_in c.places.grains.entries) c.places.invariant c.in-Some.grain.now (kept_grain (entry_of c.in-Some.activation.now)) at (sym c.in-Some.ensures.id)
     (grains_in c.put_grain.new.grains.entries) c.in_ok-put_grain.ensures
 
-pub returns : goal.returns
-returns g c =
+pub returns-clause-kept : goal.returns-clause-kept
+returns-clause-kept g c =
     let directory = c.self.inside.directory in
     let entries = c.args.self.now.entries in
     let all = map_values kept_grain entries in

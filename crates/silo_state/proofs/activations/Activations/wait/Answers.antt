@@ -47,12 +47,12 @@ invariant_of-self-2 g c =
     let due = c.due_if_used-due.result in
     let new = c.enter.new.directory.activations in
     let absent = sym c.in_default.ensures.value in (
-      enter_marked logic m grain c.args.request inside.clock due new c.in_ok-enter.ensures.entered absent c.self.invariant.0 c.requires.known c.requires.marked,
-      enter_noted logic m grain c.args.request inside.clock due new c.in_ok-enter.ensures.entered absent (kind_age inside.ages inside.age) inside.collector.notes _ c.self.invariant.1 c.due_if_used-due.ensures
+      enter_marked logic m grain c.args.request inside.clock c.in_ok-first.first c.in_ok-first.ensures due new c.in_ok-enter.ensures.entered absent c.self.invariant.0 c.requires.known c.requires.marked,
+      enter_noted logic m grain c.args.request inside.clock c.in_ok-first.first c.in_ok-first.ensures due new c.in_ok-enter.ensures.entered absent (kind_age inside.ages inside.age) inside.collector.notes _ c.self.invariant.1 c.due_if_used-due.ensures
           (ap (λ (k : Collection). k.notes) c.note_expected.ensures ∙ ap (λ (k : Collection). noted_if k.notes k.expected due) c.in_ok-expect.ensures.expected),
     )
 
 pub returns-clause-waits : goal.returns-clause-waits
 returns-clause-waits g c =
     rw (← c.self.view_is)
-    (enter_shows g.L.GrainLogic.logic c.self.inside.directory.activations c.args.grain.now c.args.request c.self.inside.clock c.due_if_used-due.result c.enter.new.directory.activations c.in_ok-enter.ensures.entered (sym c.in_default.ensures.value))
+    (enter_shows g.L.GrainLogic.logic c.self.inside.directory.activations c.args.grain.now c.args.request c.self.inside.clock c.in_ok-first.first c.in_ok-first.ensures c.due_if_used-due.result c.enter.new.directory.activations c.in_ok-enter.ensures.entered (sym c.in_default.ensures.value))
