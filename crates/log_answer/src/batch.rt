@@ -111,6 +111,7 @@ pub(crate) fn commit_batch<H: LogHost, W: Write>(
         (W.contents output.old.writer) (W.contents output.new.writer) place batch.old.asked.items batch.old.text.items) }
     ensures empty { OnOk result ((batch.new.asked.items ≡ []) × (batch.new.text.items ≡ [])) }
     ensures begun { H.begun log.new ≡ H.begun log.old }
+    ensures past { H.past log.new ≡ H.past log.old }
     ensures memory { result ≡ Err CommitFault.Memory → Keeps (W.contents output.old.writer) (W.contents output.new.writer) }
     ensures failed { result ≡ Err CommitFault.Host → H.failed log.new ≡ true }
     ensures unfailed { OnOk result (H.failed log.new ≡ H.failed log.old) }

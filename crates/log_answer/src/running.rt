@@ -114,6 +114,7 @@ fn take_next<R: Read, W: Write, H: LogHost>(
         (W.contents output.old.writer) (W.contents output.new.writer) place.old batch.old.asked.items batch.old.text.items
         (left_of input.old.lines (R.remaining input.old.reader)) (R.remaining input.new.reader) input.new.lines (H.failed log.new) why) }
     ensures begun { H.begun log.new ≡ H.begun log.old }
+    ensures past { H.past log.new ≡ H.past log.old }
     ensures unfailed { OnOk result (H.failed log.new ≡ H.failed log.old) }
     ensures output { OnOk result (output.new.calls.failed ≡ output.old.calls.failed) }
     ensures out { OnOk result (output.old.calls.held ≡ false → output.new.calls.held ≡ false) }
@@ -185,6 +186,7 @@ pub fn answer_logged<R: Read, W: Write, H: LogHost, S: GrainStorage, L: GrainLog
 
     // It is written behind what the log had, and nothing of that is changed.
     ensures begun { H.begun log.new ≡ H.begun log.old }
+    ensures past { H.past log.new ≡ H.past log.old }
     ensures bound { IfOk result (λ n. n ≤ answered_limit) }
     ensures unfailed { OnOk result (H.failed log.new ≡ H.failed log.old) }
     ensures output { OnOk result (output.new.calls.failed ≡ output.old.calls.failed) }

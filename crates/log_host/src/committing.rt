@@ -51,6 +51,7 @@ pub fn commit<H: LogHost, W: Write>(
     text: &[u8],
 ) -> Result<LogPlace, CommitFault>
     ensures begun { H.begun host.new ≡ H.begun host.old }
+    ensures past { H.past host.new ≡ H.past host.old }
 
     // The batch is written with its mark, then it is on the disk, and then its text is told.
     ensures order { IfOk result (λ next. Adds (H.acts host.old) (H.acts host.new)

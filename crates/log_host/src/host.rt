@@ -3,7 +3,7 @@
 ghost use Rattle.std.specs.Prelude.{◌≡◌, ◌≢◌, false, true, Bool, List, ℕ, [], ◌∷◌, IfErr, IfOk, OnErr, OnOk, Option, option_map};
 ghost use Rattle.std.specs.Io.KnownBytes.{Appends};
 ghost use Rattle.log_host.specs.Acts.{Act, Adds, AddsPart, TellsPart, synced, told, wrote};
-ghost use Rattle.log_host.specs.Files.{Begins, Cuts, Finds, MayBegin, MayCut};
+ghost use Rattle.log_host.specs.Files.{Begins, Cuts, Finds, MayBegin, MayCut, MaySwitch, Past, Switches};
 
 use line_protocol::Output;
 use std::alloc::Global;
@@ -21,12 +21,16 @@ pub trait LogHost {
     /// What was done since, if it is known: of files of the system nothing is.
     ghost acts: { Self → Option (List Act) };
 
+    /// The checkpoint on which the log goes on, and the logs that were replaced since the log was opened.
+    ghost past: { Self → Past };
+
     /// Whether a call failed.
     ghost failed: { Self → Bool };
 
     /// Writes the bytes at the log's end.
     fn append(&mut self, bytes: &[u8]) -> Result<(), HostFault>
         ensures begun { begun self.new ≡ begun self.old }
+        ensures past { past self.new ≡ past self.old }
         ensures ok { OnOk result (Adds (acts self.old) (acts self.new) (wrote bytes.now ∷ [])) }
         ensures err { OnErr result (AddsPart (acts self.old) (acts self.new) wrote bytes.now) }
         ensures unfailed { OnOk result (failed self.new ≡ failed self.old) }
@@ -35,6 +39,7 @@ pub trait LogHost {
     /// Brings all of the log to the disk.
     fn sync(&mut self) -> Result<(), HostFault>
         ensures begun { begun self.new ≡ begun self.old }
+        ensures past { past self.new ≡ past self.old }
         ensures ok { OnOk result (Adds (acts self.old) (acts self.new) (synced ∷ [])) }
         ensures err { OnErr result (Adds (acts self.old) (acts self.new) []) }
         ensures unfailed { OnOk result (failed self.new ≡ failed self.old) }
@@ -43,6 +48,7 @@ pub trait LogHost {
     /// Sends the bytes to whoever sent the requests: writes them to the output, and flushes it.
     fn tell<W: Write>(&mut self, output: &mut Output<W>, bytes: &[u8]) -> Result<(), HostFault>
         ensures begun { begun self.new ≡ begun self.old }
+        ensures past { past self.new ≡ past self.old }
         ensures ok { OnOk result (Adds (acts self.old) (acts self.new) (told bytes.now ∷ [])) }
         ensures written { OnOk result (Appends (W.contents output.old.writer) (W.contents output.new.writer) bytes.now) }
         ensures err { OnErr result (TellsPart (acts self.old) (acts self.new)
@@ -69,7 +75,8 @@ pub enum OpenFault {
     Write,
 }
 
-/// A log that can be opened, begun and cut. None of this is to be asked of a log to which anything was done since.
+/// A log that can be opened, begun and cut, none of which is to be asked of a log to which anything was done since; and a checkpoint
+/// that may replace it.
 pub trait LogFiles: LogHost {
     /// Opens the log at the path for this process alone, and gives its bytes, head and all, which are on the disk then; none
     /// if there's no log. That they are on the disk is for the host to do: what was found counts as synced.
@@ -81,6 +88,7 @@ pub trait LogFiles: LogHost {
         ensures ok { IfOk result (λ found. Finds (Self.acts self.old) (Self.begun self.old) (Self.acts self.new) (Self.begun self.new)
             (option_map (λ bytes. bytes.items) found)) }
         ensures err { OnErr result ((Self.acts self.new ≡ Self.acts self.old) × (Self.begun self.new ≡ Self.begun self.old)) }
+        ensures past { Self.past self.new ≡ Self.past self.old }
         ensures unfailed { OnOk result (Self.failed self.new ≡ Self.failed self.old) }
         ensures failed { IfErr result (λ why. why ≢ OpenFault.Memory → why ≢ OpenFault.InUse → Self.failed self.new ≡ true) };
 
@@ -93,6 +101,7 @@ pub trait LogFiles: LogHost {
         ensures ok { OnOk result (Begins (Self.acts self.old) (Self.acts self.new) (Self.begun self.new) head.now) }
         ensures err { OnErr result (MayBegin (Self.acts self.old) (Self.begun self.old) (Self.acts self.new) (Self.begun self.new)
             head.now) }
+        ensures past { Self.past self.new ≡ Self.past self.old }
         ensures unfailed { OnOk result (Self.failed self.new ≡ Self.failed self.old) }
         ensures failed { OnErr result (Self.failed self.new ≡ true) };
 
@@ -104,6 +113,34 @@ pub trait LogFiles: LogHost {
     fn keep(&mut self, length: usize) -> Result<(), HostFault>
         ensures ok { OnOk result (Cuts (Self.acts self.old) (Self.begun self.old) (Self.acts self.new) (Self.begun self.new) length) }
         ensures err { OnErr result (MayCut (Self.acts self.old) (Self.begun self.old) (Self.acts self.new) (Self.begun self.new) length) }
+        ensures past { Self.past self.new ≡ Self.past self.old }
+        ensures unfailed { OnOk result (Self.failed self.new ≡ Self.failed self.old) }
+        ensures failed { OnErr result (Self.failed self.new ≡ true) };
+
+    /// The bytes of the checkpoint, which are on the disk; none if there's no checkpoint. It is asked of a log that is open.
+    ///
+    /// # Errors
+    ///
+    /// Those of `OpenFault`; all is as it was.
+    fn checkpoint(&mut self, alloc: Global) -> Result<Option<Vec<u8>>, OpenFault>
+        ensures ok { IfOk result (λ found. Self.acts self.old ≡ Some [] → (Self.past self.old).point ≡ option_map (λ bytes. bytes.items) found) }
+        ensures begun { Self.begun self.new ≡ Self.begun self.old }
+        ensures acts { Self.acts self.new ≡ Self.acts self.old }
+        ensures past { Self.past self.new ≡ Self.past self.old }
+        ensures unfailed { OnOk result (Self.failed self.new ≡ Self.failed self.old) }
+        ensures failed { IfErr result (λ why. why ≢ OpenFault.Memory → why ≢ OpenFault.InUse → Self.failed self.new ≡ true) };
+
+    /// A checkpoint in place of none or of another, and then a log in place of the one that is there, which has this head
+    /// and nothing after it. Each is on the disk before what follows is done.
+    ///
+    /// # Errors
+    ///
+    /// A call failed: all is as it was, or the checkpoint alone is in its place, or the new log too.
+    fn switch(&mut self, checkpoint: &[u8], head: &[u8]) -> Result<(), HostFault>
+        ensures ok { OnOk result (Switches (Self.acts self.old) (Self.begun self.old) (Self.past self.old)
+            (Self.acts self.new) (Self.begun self.new) (Self.past self.new) checkpoint.now head.now) }
+        ensures err { OnErr result (MaySwitch (Self.acts self.old) (Self.begun self.old) (Self.past self.old)
+            (Self.acts self.new) (Self.begun self.new) (Self.past self.new) checkpoint.now head.now) }
         ensures unfailed { OnOk result (Self.failed self.new ≡ Self.failed self.old) }
         ensures failed { OnErr result (Self.failed self.new ≡ true) };
 }

@@ -14,5 +14,5 @@ mod place;
 
 pub use committing::{CommitFault, commit};
 pub use host::{HostFault, LogFiles, LogHost, OpenFault};
-pub use memory::{Did, Fuse, MemoryLog};
+pub use memory::{Did, Fuse, MemoryLog, OldLog};
 pub use place::LogPlace;

@@ -1,15 +1,16 @@
 //! A log in memory, for trials of what fails.
 
-ghost use Rattle.std.specs.Prelude.{◌≡◌, ◌⊎◌, true, false, [], ◌∷◌, ◌++◌, Some, IfOk, OnErr, OnOk, option_map};
+ghost use Rattle.std.specs.Prelude.{◌≡◌, ◌⊎◌, true, false, [], ◌∷◌, ◌++◌, None, Some, IfOk, OnErr, OnOk, map, option_map};
 ghost use Rattle.std.specs.Io.KnownBytes.{Appends};
 ghost use Rattle.line_protocol.specs.LineRuns.{WrittenInPart};
 ghost use Rattle.log_host.specs.Acts.{Adds, AddsPart, TellsPart, synced, told, wrote};
-ghost use Rattle.log_host.specs.Memory.{acts_of, burns, later};
+ghost use Rattle.log_host.specs.Memory.{acts_of, burns, bytes_in, later, replaced_of};
 
 use crate::host::{HostFault, LogFiles, LogHost, OpenFault};
 use line_protocol::{LineFault, Output};
 use std::alloc::Global;
 use std::io::Write;
+use std::mem;
 
 /// What a log in memory did.
 #[derive(Drop)]
@@ -19,7 +20,16 @@ pub enum Did {
     Told(Vec<u8>),
 }
 
-/// Which call fails, counted from 1, and how many of its bytes are done before; 0 is no call.
+/// A log in memory that was replaced: the checkpoint on which it went on, what it began with, and what it did.
+#[derive(Drop)]
+pub struct OldLog {
+    pub point: Option<Vec<u8>>,
+    pub begun: Option<Vec<u8>>,
+    pub did: Vec<Did>,
+}
+
+/// Which call fails, counted from 1, and how many of its bytes are done before; 0 is no call. A switch that fails has done nothing
+/// where that is 0, and placed the checkpoint otherwise.
 #[derive(Clone, Copy, Debug)]
 pub struct Fuse {
     pub calls: u64,
@@ -40,30 +50,35 @@ impl Fuse {
     }
 }
 
-/// A log that begins with some bytes on the disk, or isn't there, and notes what it is asked. Of its calls one fails where the
-/// fuse burns; and one where memory is refused, which is noted too.
+/// A log that begins with some bytes on the disk, or isn't there, and notes what it is asked; a checkpoint, if there is one; and the
+/// logs that were replaced. Of its calls one fails where the fuse burns; and one where memory is refused, which is noted too.
 #[derive(Drop)]
 pub struct MemoryLog {
     pub alloc: Global,
+    pub point: Option<Vec<u8>>,
     pub begun: Option<Vec<u8>>,
     pub did: Vec<Did>,
+    pub replaced: Vec<OldLog>,
     pub fuse: Fuse,
     pub failed: bool,
     pub refused: bool,
 }
 
 impl MemoryLog {
-    /// Holds the bytes, and has done nothing.
+    /// Holds the bytes, has no checkpoint, and has done nothing.
     pub fn new(alloc: Global, begun: Option<Vec<u8>>, fuse: Fuse) -> MemoryLog
         ensures begun { result.begun ≡ begun }
         ensures did { result.did.items ≡ [] }
+        ensures past { (result.point ≡ None) × (result.replaced.items ≡ []) }
         ensures fuse { result.fuse ≡ fuse }
         ensures failed { (result.failed ≡ false) × (result.refused ≡ false) }
     {
         MemoryLog {
             alloc,
+            point: None,
             begun,
             did: Vec::new(alloc),
+            replaced: Vec::new(alloc),
             fuse,
             failed: false,
             refused: false,
@@ -81,6 +96,7 @@ impl MemoryLog {
     /// Notes what was done.
     fn note(&mut self, did: Did) -> Result<(), HostFault>
         ensures begun { self.new.begun ≡ self.old.begun }
+        ensures past { (self.new.point ≡ self.old.point) × (self.new.replaced ≡ self.old.replaced) }
         ensures fuse { self.new.fuse ≡ self.old.fuse }
         ensures ok { OnOk result (self.new.did.items ≡ self.old.did.items ++ did ∷ []) }
         ensures unfailed { OnOk result ((self.new.failed ≡ self.old.failed) × (self.new.refused ≡ self.old.refused)) }
@@ -111,6 +127,7 @@ impl MemoryLog {
     /// Notes that the bytes were written.
     fn wrote(&mut self, bytes: &[u8]) -> Result<(), HostFault>
         ensures begun { self.new.begun ≡ self.old.begun }
+        ensures past { (self.new.point ≡ self.old.point) × (self.new.replaced ≡ self.old.replaced) }
         ensures fuse { self.new.fuse ≡ self.old.fuse }
         ensures ok { OnOk result (acts_of self.new.did.items ≡ acts_of self.old.did.items ++ wrote bytes.now ∷ []) }
         ensures unfailed { OnOk result ((self.new.failed ≡ self.old.failed) × (self.new.refused ≡ self.old.refused)) }
@@ -124,6 +141,7 @@ impl MemoryLog {
     /// Notes that the bytes went out as replies.
     fn told(&mut self, bytes: &[u8]) -> Result<(), HostFault>
         ensures begun { self.new.begun ≡ self.old.begun }
+        ensures past { (self.new.point ≡ self.old.point) × (self.new.replaced ≡ self.old.replaced) }
         ensures fuse { self.new.fuse ≡ self.old.fuse }
         ensures ok { OnOk result (acts_of self.new.did.items ≡ acts_of self.old.did.items ++ told bytes.now ∷ []) }
         ensures unfailed { OnOk result ((self.new.failed ≡ self.old.failed) × (self.new.refused ≡ self.old.refused)) }
@@ -149,14 +167,17 @@ fn write_out<W: Write>(output: &mut Output<W>, bytes: &[u8]) -> Result<(), LineF
 }
 
 impl LogHost for MemoryLog {
-    ghost begun = { λ log. option_map (λ bytes. bytes.items) log.begun };
+    ghost begun = { λ log. option_map bytes_in log.begun };
 
     ghost acts = { λ log. Some (acts_of log.did.items) };
+
+    ghost past = { λ log. record { point = option_map bytes_in log.point; logs = map replaced_of log.replaced.items } };
 
     ghost failed = { λ log. log.failed };
 
     fn append(&mut self, bytes: &[u8]) -> Result<(), HostFault>
         ensures begun { self.new.begun ≡ self.old.begun }
+        ensures past { (self.new.point ≡ self.old.point) × (self.new.replaced ≡ self.old.replaced) }
         ensures ok { OnOk result (Adds (Some (acts_of self.old.did.items)) (Some (acts_of self.new.did.items)) (wrote bytes.now ∷ [])) }
         ensures err { OnErr result (AddsPart (Some (acts_of self.old.did.items)) (Some (acts_of self.new.did.items)) wrote bytes.now) }
         ensures unfailed { OnOk result (self.new.failed ≡ self.old.failed) }
@@ -176,6 +197,7 @@ impl LogHost for MemoryLog {
 
     fn sync(&mut self) -> Result<(), HostFault>
         ensures begun { self.new.begun ≡ self.old.begun }
+        ensures past { (self.new.point ≡ self.old.point) × (self.new.replaced ≡ self.old.replaced) }
         ensures ok { OnOk result (Adds (Some (acts_of self.old.did.items)) (Some (acts_of self.new.did.items)) (synced ∷ [])) }
         ensures err { OnErr result (Adds (Some (acts_of self.old.did.items)) (Some (acts_of self.new.did.items)) []) }
         ensures unfailed { OnOk result (self.new.failed ≡ self.old.failed) }
@@ -194,6 +216,7 @@ impl LogHost for MemoryLog {
 
     fn tell<W: Write>(&mut self, output: &mut Output<W>, bytes: &[u8]) -> Result<(), HostFault>
         ensures begun { self.new.begun ≡ self.old.begun }
+        ensures past { (self.new.point ≡ self.old.point) × (self.new.replaced ≡ self.old.replaced) }
         ensures ok { OnOk result (Adds (Some (acts_of self.old.did.items)) (Some (acts_of self.new.did.items)) (told bytes.now ∷ [])) }
         ensures written { OnOk result (Appends (W.contents output.old.writer) (W.contents output.new.writer) bytes.now) }
         ensures err { OnErr result (TellsPart (Some (acts_of self.old.did.items)) (Some (acts_of self.new.did.items))
@@ -253,6 +276,42 @@ impl LogFiles for MemoryLog {
         if let Some(bytes) = &mut self.begun {
             bytes.truncate(length);
         }
+        Ok(())
+    }
+
+    fn checkpoint(&mut self, alloc: Global) -> Result<Option<Vec<u8>>, OpenFault> {
+        if self.fuse.burns() {
+            self.failed = true;
+            return Err(OpenFault::Read);
+        }
+        let Some(bytes) = &self.point else {
+            return Ok(None);
+        };
+        match Vec::from_slice(alloc, bytes.as_slice()) {
+            Ok(copy) => Ok(Some(copy)),
+            Err(_) => Err(OpenFault::Memory),
+        }
+    }
+
+    fn switch(&mut self, checkpoint: &[u8], head: &[u8]) -> Result<(), HostFault> {
+        let point = self.copied(checkpoint)?;
+        let begun = self.copied(head)?;
+        if self.replaced.reserve(1).is_err() {
+            self.refused = true;
+            return Err(self.fail());
+        }
+        if self.fuse.burns() {
+            if self.fuse.part > 0 {
+                self.point = Some(point);
+            }
+            return Err(self.fail());
+        }
+        let old = OldLog {
+            point: self.point.replace(point),
+            begun: self.begun.replace(begun),
+            did: mem::replace(&mut self.did, Vec::new(self.alloc)),
+        };
+        self.replaced.push_reserved(old);
         Ok(())
     }
 }
