@@ -9,7 +9,7 @@ use Rattle.log_answer.proofs.running.answer_logged.Goals as goal
 
 pub loop-count-init : goal.loop-count-init
 loop-count-init g c =
-    (record { all = _; has = left_self _ _; going = going_none _ _ _ _ _ _ _ _ _ c.journal.ensures.leads (c.journal.ensures.idle c.requires) c.new-batch.ensures.0 c.new-batch.ensures.1 }, c.requires, refl, refl, refl, refl, λ none. none)
+    (record { all = _; has = left_self _ _; going = going_none _ _ _ _ _ _ _ _ _ c.journal.ensures.leads (c.journal.ensures.idle c.requires) c.new-batch.ensures.0 c.new-batch.ensures.1 }, c.requires, refl, refl, refl, refl, λ none. none, refl)
 
 pub loop-count-preserved : goal.loop-count-preserved
 loop-count-preserved g c =
@@ -24,6 +24,7 @@ loop-count-preserved g c =
       taken.begun ∙ inv.4,
       c.in_ok-answer_more.ensures.keeps ∙ inv.5,
       λ none. taken.out (inv.6 none),
+      taken.past ∙ inv.7,
     )
 
 -- ---- the end of the input

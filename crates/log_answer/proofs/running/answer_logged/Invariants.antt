@@ -14,3 +14,4 @@ invariant-loop-count g l =
     × (g.H.LogHost.begun l.log ≡ g.H.LogHost.begun l.fn.log)
     × (l.silo.keeps ≡ l.fn.silo.keeps)
     × (l.fn.output.calls.held ≡ false → l.output.calls.held ≡ false)
+    × (g.H.LogHost.past l.log ≡ g.H.LogHost.past l.fn.log)
