@@ -1,10 +1,11 @@
 -- As far as an input was answered and its log has it.
-use Rattle.std.proofs.Common.{◌≡◌, ◌≢◌, ◌∙◌, ℕ, ◌+◌, Bool, IfSome, List, [], ◌∷◌, ◌++◌, Option, Some, append_assoc, inl, inr, refl, sym, subst, ap, ⊎_elim}
+use Rattle.std.proofs.Common.{◌≡◌, ◌≢◌, ◌∙◌, ℕ, ◌+◌, Bool, IfSome, List, [], ◌∷◌, ◌++◌, Option, Some, append_assoc, append-nil, inl, inr, refl, sym, subst, ap, ⊎_elim}
 use Rattle.std.specs.Prelude.{◌⊎◌}
 use Rattle.std.specs.Io.KnownBytes.{IsAtEnd, Keeps}
 use Rattle.std.proofs.KnownBytes.{Keeps-refl}
 use Rattle.grain_logic.specs.Logic.{Logic}
 use Rattle.silo_model.specs.Journal.{LeadsTo}
+use Rattle.silo_model.specs.Segments.{untold}
 use Rattle.silo_model.specs.Whole.{Whole}
 use Rattle.silo_core.specs.History.{History}
 use Rattle.line_protocol.specs.Lines.{lines_of}
@@ -14,16 +15,17 @@ use Rattle.answer_model.specs.Idle.{AllIdle}
 use Rattle.log_host.specs.Acts.{Act, Held, held_from}
 use Rattle.log_host.proofs.Moments.{held_on}
 use Rattle.log_host.specs.declared.place.LogPlace.{LogPlace}
-use Rattle.log_answer.specs.Answers.{HasLeft, kept_line, kept_lines, silo_log}
-use Rattle.log_host.specs.Lasting.{LastsFrom}
-use Rattle.log_answer.specs.Runs.{AnswersLogged, GoesOn, KeepsLines, StopsLogged}
+use Rattle.log_answer.specs.Answers.{HasLeft, kept_line, kept_lines, led, silo_log}
+use Rattle.log_host.specs.Lasting.{LastsFrom, lines_in}
+use Rattle.log_answer.specs.Runs.{AnswersLogged, GoesFrom, GoesOn, KeepsLines, StopsLogged}
 use Rattle.log_answer.specs.Starts.{IsOwn, MarksTell, OwnsFrom}
 use Rattle.log_answer.specs.declared.running.LogFault.{LogFault}
 use Rattle.log_answer.specs.declared.running.LogFault.TheVariants as fault
 use Rattle.log_answer.specs.inside.Commits.{Breaks, Commits, Settles, StopsTaking, Waits}
 use Rattle.log_answer.specs.inside.Gathering.{Gathers, GathersOn}
-use Rattle.log_answer.proofs.Done.{Done, done_gathered, done_left, done_none, settles_last, settles_none}
-use Rattle.log_answer.proofs.Left.{gathers_on}
+use Rattle.log_answer.proofs.Done.{Done, done_gathered, done_left, done_none, kept_heard, led_by_heard, settles_last, settles_none}
+use Rattle.log_answer.proofs.Led.{led_append}
+use Rattle.log_answer.proofs.Left.{gathers_on, led_alike, left_is_all}
 use Rattle.log_answer.proofs.Own.{own_part, own_settled, same_more, tells_same}
 use Rattle.log_answer.proofs.Ends.{asking, committed, done_all, keeps_all, lasts_taking, lasts_then, settles_then, stops_full, stops_memory, stops_taking}
 
@@ -251,3 +253,23 @@ module _ (logic : Logic) (n : ℕ) where
         owns_broken count from left old now before during asked texts begun place start mid p after new b.0
     owns_stopped fault.Write after rest new reading failed b =
         owns_broken count from left old now before during asked texts begun place start mid p after new b.0
+
+    -- behind the last batch the silo is where the lines of the log lead
+    pub going_goes : (keeps : Bool) (here : History) → HasLeft keeps now here → (after : Option (List ℕ)) (next : LogPlace) (new : Option (List Act))
+        → Commits mid new during after place asked texts next
+        → (w : Whole) (first : ℕ) (h : Held) (acts : List Act) → start ≡ Some acts → GoesOn logic n w first begun h old.whole
+        → GoesFrom logic n w begun.name first h here.whole acts new
+    going_goes keeps here has after next new c w first h acts is on =
+        let g = going_committed count from left old now before during asked texts begun place start mid p after [] [] next new c refl refl in
+        let s = g.keeps w first h acts is on in
+        let log = silo_log logic n w begun.name first in
+        record {
+          more = s.more;
+          acts = s.acts;
+          always = s.always;
+          sum = next.sum;
+          settled = s.settled;
+          leads = left_is_all keeps now here has ∙ ap untold (g.done.whole ∙ ap (led logic n old.whole) (append-nil g.told) ∙ sym (led_by_heard logic n old.whole (kept_lines g.told) g.told (kept_heard logic n g.told)))
+              ∙ led_alike logic n old.whole (led logic n w (lines_in log h.file)) (kept_lines g.told) on.leads
+              ∙ ap untold (sym (led_append logic n w (lines_in log h.file) (kept_lines g.told)) ∙ ap (led logic n w) (sym s.lines_then));
+        }

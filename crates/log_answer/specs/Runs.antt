@@ -11,8 +11,8 @@ use Rattle.line_protocol.specs.LineRuns.{WrittenInPart}
 use Rattle.line_protocol.specs.Reading.{AreTaken, Reading}
 use Rattle.line_answer.specs.Limits.{IsAnsweredOut}
 use Rattle.log_text.specs.Lines.{HasNoBreak}
-use Rattle.log_host.specs.Acts.{Act, Held, held_from}
-use Rattle.log_host.specs.Lasting.{IsSettled, Log, lines_in}
+use Rattle.log_host.specs.Acts.{Act, Always, Held, held_from}
+use Rattle.log_host.specs.Lasting.{IsSettled, Lasts, Log, lines_in}
 use Rattle.log_host.specs.declared.place.LogPlace.{LogPlace}
 use Rattle.log_answer.specs.Answers.{HasLeft, IsLed, kept_lines, led, silo_log, told_for}
 use Rattle.log_answer.specs.declared.running.LogFault.{LogFault}
@@ -68,3 +68,13 @@ pub record KeepsLines (log : Log) (h : Held) (lines : List (List ℕ)) (old : Li
   pub sum : ℕ
   pub settled : IsSettled log (held_from h more) sum
   pub lines_then : lines_in log (held_from h more).file ≡ lines_in log h.file ++ kept_lines lines
+
+-- The log was given more, at each moment it lasts, it is settled again, and the silo is where its lines lead, but for the replies.
+pub record GoesFrom (logic : Logic) (n : ℕ) (w : Whole) (name : List ℕ) (first : ℕ) (h : Held) (silo : Whole) (old : List Act)
+    (new : Option (List Act)) : Type 0 where
+  pub more : List Act
+  pub acts : new ≡ Some (old ++ more)
+  pub always : Always (Lasts (silo_log logic n w name first)) h more
+  pub sum : ℕ
+  pub settled : IsSettled (silo_log logic n w name first) (held_from h more) sum
+  pub leads : untold silo ≡ untold (led logic n w (lines_in (silo_log logic n w name first) (held_from h more).file))

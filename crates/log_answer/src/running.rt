@@ -9,7 +9,7 @@ ghost use Rattle.line_answer.specs.Limits.{answered_limit};
 ghost use Rattle.log_host.specs.Acts.{Act, Held};
 ghost use Rattle.log_host.specs.Lasting.{LastsFrom};
 ghost use Rattle.log_answer.specs.Answers.{silo_log};
-ghost use Rattle.log_answer.specs.Runs.{GoesOn, KeepsLines, LogsOn, StopsLogged};
+ghost use Rattle.log_answer.specs.Runs.{GoesFrom, GoesOn, KeepsLines, LogsOn, StopsLogged};
 ghost use Rattle.log_answer.specs.Starts.{MarksTell, OwnsFrom};
 ghost use Rattle.log_answer.specs.inside.Commits.{Commits, StopsTaking, Waits};
 
@@ -171,6 +171,11 @@ pub fn answer_logged<R: Read, W: Write, H: LogHost, S: GrainStorage, L: GrainLog
         (w : Whole) (first : ℕ) (h : Held) (acts : List Act) → H.acts log.old ≡ Some acts
         → GoesOn L.logic most w first place h silo.old.history.whole
         → KeepsLines (silo_log L.logic most w place.name first) h (lines_of bytes) acts (H.acts log.new))) }
+
+    // In the end it goes on behind its last batch, and the silo is where its lines lead, whether the input is known or not.
+    ensures goes { OnOk result ((w : Whole) (first : ℕ) (h : Held) (acts : List Act) → H.acts log.old ≡ Some acts
+        → GoesOn L.logic most w first place h silo.old.history.whole
+        → GoesFrom L.logic most w place.name first h silo.new.history.whole acts (H.acts log.new)) }
     ensures stops { IfErr result (λ why. IfSome (left_of input.old.lines (R.remaining input.old.reader)) (λ bytes.
         StopsLogged L.logic most bytes input.new.lines (R.remaining input.new.reader) (H.failed log.new) silo.old.history.whole
         (W.contents output.old.writer) (W.contents output.new.writer) why)) }

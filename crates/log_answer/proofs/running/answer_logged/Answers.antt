@@ -3,7 +3,7 @@ use Rattle.line_protocol.proofs.ReadLines.{handed}
 use Rattle.line_protocol.proofs.Run.{nothing_ahead}
 use Rattle.line_protocol.proofs.TakenLines.{TakesPart-kept, TakesPart-none}
 use Rattle.log_answer.proofs.Left.{left_self, logs_on}
-use Rattle.log_answer.proofs.Going.{gathered_on, going_ends, going_full, going_keeps, going_memory, going_moved, going_none, going_stops, lasts_ended, lasts_now, lasts_stopped, owns_ended, owns_now, owns_stopped}
+use Rattle.log_answer.proofs.Going.{gathered_on, going_ends, going_full, going_goes, going_keeps, going_memory, going_moved, going_none, going_stops, lasts_ended, lasts_now, lasts_stopped, owns_ended, owns_now, owns_stopped}
 use Rattle.log_answer.proofs.Kept.{stops_behind, stops_commit}
 use Rattle.log_answer.proofs.running.answer_logged.Goals as goal
 
@@ -49,6 +49,14 @@ returns-then-not-branch-clause-kept g c =
 pub returns-then-not-branch-clause-lasts : goal.returns-then-not-branch-clause-lasts
 returns-then-not-branch-clause-lasts g c =
     lasts_ended _ _ _ _ _ _ _ _ _ _ _ _ _ _ _ c.loop-count.invariant.0.going _ _ _ (c.in_ok-take_next.ensures.commits (ap Ok c.if-not-branch.true))
+
+pub returns-then-not-branch-clause-goes : goal.returns-then-not-branch-clause-goes
+returns-then-not-branch-clause-goes g c =
+    going_goes _ _ _ _ _ _ _ _ _ _ _ _ _ _ _ c.loop-count.invariant.0.going _ _ c.loop-count.invariant.0.has _ _ _ (c.in_ok-take_next.ensures.commits (ap Ok c.if-not-branch.true))
+
+pub returns-clause-goes : goal.returns-clause-goes
+returns-clause-goes g c =
+    going_goes _ _ _ _ _ _ _ _ _ _ _ _ _ _ _ c.loop-count.invariant.0.going _ _ c.loop-count.invariant.0.has _ _ _ c.in_ok-commit_batch.ensures.commits
 
 pub returns-clause-answered : goal.returns-clause-answered
 returns-clause-answered g c =
