@@ -57,7 +57,20 @@ impl MemoryStorage {
         requires versioned { AreVersioned rows.items }
         ensures { IfOk result (λ storage. storage ≡ rows_of rows.items) }
     {
-        let mut kept = IndexMap::with_hasher(alloc, HashSeed::fixed());
+        MemoryStorage::seeded_with_rows(alloc, rows, HashSeed::fixed())
+    }
+
+    /// The same, found by hashes from this seed.
+    pub fn seeded_with_rows(
+        alloc: Global,
+        rows: Vec<(GrainId, Row)>,
+        seed: HashSeed,
+    ) -> Result<MemoryStorage, AllocError>
+        requires ascending { IsAscending rows.items }
+        requires versioned { AreVersioned rows.items }
+        ensures { IfOk result (λ storage. storage ≡ rows_of rows.items) }
+    {
+        let mut kept = IndexMap::with_hasher(alloc, seed);
         for (grain, row) in rows {
             place(&mut kept, grain, row)?;
         }

@@ -1,6 +1,6 @@
 use Rattle.std.proofs.Common.{◌++◌, ap, sym, ◌∙◌}
 use Rattle.grain_storage.proofs.Ascending.{insert_entry-next}
-use Rattle.grain_storage.proofs.memory.MemoryStorage.with_rows.Goals as goal
+use Rattle.grain_storage.proofs.memory.MemoryStorage.seeded_with_rows.Goals as goal
 
 pub loop-grain-preserved : goal.loop-grain-preserved
 loop-grain-preserved c =
