@@ -1,6 +1,6 @@
 //! A host that keeps a log and writes the replies, and one that opens a log, too.
 
-ghost use Rattle.std.specs.Prelude.{◌≡◌, ◌≢◌, false, true, Bool, List, ℕ, [], ◌∷◌, IfErr, IfOk, OnErr, OnOk, Option, option_map};
+ghost use Rattle.std.specs.Prelude.{◌≡◌, ◌≢◌, false, true, Bool, List, ℕ, [], ◌∷◌, IfErr, IfOk, None, OnErr, OnOk, Option, option_map};
 ghost use Rattle.std.specs.Io.KnownBytes.{Appends};
 ghost use Rattle.log_host.specs.Acts.{Act, Adds, AddsPart, TellsPart, synced, told, wrote};
 ghost use Rattle.log_host.specs.Files.{Begins, Cuts, Finds, MayBegin, MayCut, MaySwitch, Past, Switches};
@@ -141,6 +141,7 @@ pub trait LogFiles: LogHost {
             (Self.acts self.new) (Self.begun self.new) (Self.past self.new) checkpoint.now head.now) }
         ensures err { OnErr result (MaySwitch (Self.acts self.old) (Self.begun self.old) (Self.past self.old)
             (Self.acts self.new) (Self.begun self.new) (Self.past self.new) checkpoint.now head.now) }
+        ensures unknown { Self.acts self.old ≡ None → Self.acts self.new ≡ None }
         ensures unfailed { OnOk result (Self.failed self.new ≡ Self.failed self.old) }
         ensures failed { OnErr result (Self.failed self.new ≡ true) };
 }
