@@ -9,3 +9,5 @@ pub record Named (names : Names) (path : List ℕ) : Type 0 where
   pub lock : string_bytes names.lock ≡ path ++ codes "/lock"
   pub log : string_bytes names.log ≡ path ++ codes "/log"
   pub beside : string_bytes names.beside ≡ path ++ codes "/log.new"
+  pub checkpoint : string_bytes names.checkpoint ≡ path ++ codes "/checkpoint"
+  pub new_checkpoint : string_bytes names.new_checkpoint ≡ path ++ codes "/checkpoint.new"

@@ -116,10 +116,24 @@ impl<'a, R: Files<File = File>> DataFolder<'a, R> {
         }
     }
 
-    /// Has a log that is there, and its name, on the disk.
-    fn sync_found(&self, log: &File) -> io::Result<()> {
-        log.sync_all()?;
+    /// Has a file that is there, and its name, on the disk.
+    fn sync_found(&self, file: &File) -> io::Result<()> {
+        file.sync_all()?;
         self.sync_names()
+    }
+
+    /// The regular file at the path, open, and all its bytes, which are then on the disk with its name; nothing if there is none.
+    fn read_whole(&self, alloc: Global, path: &str) -> Result<Option<(File, Vec<u8>)>, FolderFault>
+        ensures fault { IfErr result (λ why. why ≢ FolderFault.InUse) }
+    {
+        let file = match open_file(self.files, path) {
+            Ok(file) => file,
+            Err(error) if error.kind() == ErrorKind::NotFound => return Ok(None),
+            Err(error) => return Err(reading_fault(error)),
+        };
+        let bytes = read_all(alloc, &file)?;
+        written(self.sync_found(&file))?;
+        Ok(Some((file, bytes)))
     }
 
     /// All bytes of the log, which is then on the disk and open; nothing if there is none.
@@ -135,39 +149,56 @@ impl<'a, R: Files<File = File>> DataFolder<'a, R> {
         ensures err { OnErr result (self.new ≡ self.old) }
         ensures fault { IfErr result (λ why. why ≢ FolderFault.InUse) }
     {
-        let log = match open_file(self.files, self.names.log.as_str()) {
-            Ok(log) => log,
-            Err(error) if error.kind() == ErrorKind::NotFound => return Ok(None),
-            Err(error) => return Err(reading_fault(error)),
+        let Some((log, bytes)) = self.read_whole(alloc, self.names.log.as_str())? else {
+            return Ok(None);
         };
-        let bytes = read_all(alloc, &log)?;
-        written(self.sync_found(&log))?;
         self.log = Some(log);
         Ok(Some(bytes))
     }
 
-    /// Writes the new log beside its place and, once it is on the disk, puts it there.
-    fn place_log(&self, log: &File, head: &[u8]) -> io::Result<()> {
-        write_within(log, self.limit, head)?;
-        log.sync_all()?;
-        fs::rename(
-            self.files,
-            self.names.beside.as_str(),
-            self.names.log.as_str(),
-        )?;
+    /// All bytes of the checkpoint, which is then on the disk; nothing if there is none.
+    ///
+    /// # Errors
+    ///
+    /// `Read` if it wasn't opened or read, or is a link or no regular file; `Write` if it isn't on the disk; `Memory`.
+    pub fn read_checkpoint(&self, alloc: Global) -> Result<Option<Vec<u8>>, FolderFault>
+        ensures fault { IfErr result (λ why. why ≢ FolderFault.InUse) }
+    {
+        match self.read_whole(alloc, self.names.checkpoint.as_str())? {
+            Some((_, bytes)) => Ok(Some(bytes)),
+            None => Ok(None),
+        }
+    }
+
+    /// Writes the new file beside its place and, once it is on the disk, puts it there.
+    fn put_there(&self, file: &File, bytes: &[u8], beside: &str, place: &str) -> io::Result<()> {
+        write_within(file, self.limit, bytes)?;
+        file.sync_all()?;
+        fs::rename(self.files, beside, place)?;
         self.sync_names()
     }
 
-    /// Makes a log of these bytes alone. If that fails, what was made of it is taken away again, but for a log that is in its place.
-    fn make_log(&self, head: &[u8]) -> io::Result<File> {
-        check_free(self.files, self.names.log.as_str())?;
-        take_away(self.files, self.names.beside.as_str())?;
-        let log = make_file(self.files, self.names.beside.as_str())?;
-        if let Err(error) = self.place_log(&log, head) {
-            drop(take_away(self.files, self.names.beside.as_str()));
+    /// Makes a file of these bytes alone, in place of one or of none. If that fails, what was made of it is taken away again, but for a
+    /// file that is in its place.
+    fn make_whole(&self, bytes: &[u8], beside: &str, place: &str) -> io::Result<File> {
+        take_away(self.files, beside)?;
+        let file = make_file(self.files, beside)?;
+        if let Err(error) = self.put_there(&file, bytes, beside, place) {
+            drop(take_away(self.files, beside));
             return Err(error);
         }
-        Ok(log)
+        Ok(file)
+    }
+
+    /// Makes a log of these bytes alone, in place of one or of none.
+    fn make_log(&self, head: &[u8]) -> io::Result<File> {
+        self.make_whole(head, self.names.beside.as_str(), self.names.log.as_str())
+    }
+
+    /// Makes a log of these bytes alone, where there is none.
+    fn make_first_log(&self, head: &[u8]) -> io::Result<File> {
+        check_free(self.files, self.names.log.as_str())?;
+        self.make_log(head)
     }
 
     /// Begins a log that has this head and nothing after it, where there is no log. The log is put in its place once it
@@ -188,9 +219,49 @@ impl<'a, R: Files<File = File>> DataFolder<'a, R> {
         if self.log.is_some() {
             return Err(FolderFault::Write);
         }
+        let log = written(self.make_first_log(head))?;
+        self.log = Some(log);
+        Ok(())
+    }
+
+    /// A log that has this head and nothing after it, in place of the one that is open. It is put there once it is on the disk, and is
+    /// open then; the one before is closed, and gone. What an earlier start left beside is removed.
+    ///
+    /// # Errors
+    ///
+    /// `Write` if no log is open, or a call failed, or a file may not be as long. The log is as it was then, or the new one, whole;
+    /// nobody knows which, and the log must not be used any more.
+    pub fn replace_log(&mut self, head: &[u8]) -> Result<(), FolderFault>
+        ensures open { OnOk result (IsSome self.new.log) }
+        ensures closed { self.old.log ≡ None → IsErrOf result FolderFault.Write }
+        ensures kept { self.new ≡ record self.old { log = self.new.log } }
+        ensures err { OnErr result (self.new ≡ self.old) }
+        ensures fault { IfErr result (λ why. why ≡ FolderFault.Write) }
+    {
+        if self.log.is_none() {
+            return Err(FolderFault::Write);
+        }
         let log = written(self.make_log(head))?;
         self.log = Some(log);
         Ok(())
+    }
+
+    /// A checkpoint that has these bytes, in place of another or of none. It is put there once it is on the disk. What an
+    /// earlier run left beside is removed. The log stays as it is.
+    ///
+    /// # Errors
+    ///
+    /// `Write` if a call failed, or a file may not be as long. The checkpoint is as it was then, or the new one, whole.
+    pub fn place_checkpoint(&mut self, bytes: &[u8]) -> Result<(), FolderFault>
+        ensures same { self.new ≡ self.old }
+        ensures fault { IfErr result (λ why. why ≡ FolderFault.Write) }
+    {
+        let beside = self.names.new_checkpoint.as_str();
+        let place = self.names.checkpoint.as_str();
+        match self.make_whole(bytes, beside, place) {
+            Ok(_) => Ok(()),
+            Err(_) => Err(FolderFault::Write),
+        }
     }
 
     /// Cuts the log to its first `length` bytes, on the disk.

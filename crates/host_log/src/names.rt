@@ -13,6 +13,8 @@ pub struct Names {
     pub lock: String,
     pub log: String,
     pub beside: String,
+    pub checkpoint: String,
+    pub new_checkpoint: String,
 }
 
 /// The first text, followed by the second.
@@ -33,11 +35,15 @@ pub fn names_in(alloc: Global, path: &str) -> Result<Names, AllocError>
     let lock = joined(alloc, path, "/lock")?;
     let log = joined(alloc, path, "/log")?;
     let beside = joined(alloc, path, "/log.new")?;
+    let checkpoint = joined(alloc, path, "/checkpoint")?;
+    let new_checkpoint = joined(alloc, path, "/checkpoint.new")?;
     Ok(Names {
         folder,
         above,
         lock,
         log,
         beside,
+        checkpoint,
+        new_checkpoint,
     })
 }
