@@ -4,7 +4,7 @@ ghost use Rattle.std.specs.Prelude.{◌≡◌, ◌≢◌, None, IfErr, IfOk, IfS
 ghost use Rattle.host_log.specs.Names.{Named};
 
 use crate::fault::{FolderFault, reading_fault, written};
-use crate::names::{Names, names_in};
+use crate::names::{Names, Place, names_in};
 use crate::plain_file::{check_free, cut, make_file, open_file, take_away, write_within};
 use host_writing::size_limit;
 use std::alloc::Global;
@@ -149,7 +149,7 @@ impl<'a, R: Files<File = File>> DataFolder<'a, R> {
         ensures err { OnErr result (self.new ≡ self.old) }
         ensures fault { IfErr result (λ why. why ≢ FolderFault.InUse) }
     {
-        let Some((log, bytes)) = self.read_whole(alloc, self.names.log.as_str())? else {
+        let Some((log, bytes)) = self.read_whole(alloc, self.names.log.file.as_str())? else {
             return Ok(None);
         };
         self.log = Some(log);
@@ -164,41 +164,36 @@ impl<'a, R: Files<File = File>> DataFolder<'a, R> {
     pub fn read_checkpoint(&self, alloc: Global) -> Result<Option<Vec<u8>>, FolderFault>
         ensures fault { IfErr result (λ why. why ≢ FolderFault.InUse) }
     {
-        match self.read_whole(alloc, self.names.checkpoint.as_str())? {
+        match self.read_whole(alloc, self.names.checkpoint.file.as_str())? {
             Some((_, bytes)) => Ok(Some(bytes)),
             None => Ok(None),
         }
     }
 
     /// Writes the new file beside its place and, once it is on the disk, puts it there.
-    fn put_there(&self, file: &File, bytes: &[u8], beside: &str, place: &str) -> io::Result<()> {
+    fn put_there(&self, file: &File, place: &Place, bytes: &[u8]) -> io::Result<()> {
         write_within(file, self.limit, bytes)?;
         file.sync_all()?;
-        fs::rename(self.files, beside, place)?;
+        fs::rename(self.files, place.beside.as_str(), place.file.as_str())?;
         self.sync_names()
     }
 
     /// Makes a file of these bytes alone, in place of one or of none. If that fails, what was made of it is taken away again, but for a
     /// file that is in its place.
-    fn make_whole(&self, bytes: &[u8], beside: &str, place: &str) -> io::Result<File> {
-        take_away(self.files, beside)?;
-        let file = make_file(self.files, beside)?;
-        if let Err(error) = self.put_there(&file, bytes, beside, place) {
-            drop(take_away(self.files, beside));
+    fn make_whole(&self, place: &Place, bytes: &[u8]) -> io::Result<File> {
+        take_away(self.files, place.beside.as_str())?;
+        let file = make_file(self.files, place.beside.as_str())?;
+        if let Err(error) = self.put_there(&file, place, bytes) {
+            drop(take_away(self.files, place.beside.as_str()));
             return Err(error);
         }
         Ok(file)
     }
 
-    /// Makes a log of these bytes alone, in place of one or of none.
-    fn make_log(&self, head: &[u8]) -> io::Result<File> {
-        self.make_whole(head, self.names.beside.as_str(), self.names.log.as_str())
-    }
-
     /// Makes a log of these bytes alone, where there is none.
     fn make_first_log(&self, head: &[u8]) -> io::Result<File> {
-        check_free(self.files, self.names.log.as_str())?;
-        self.make_log(head)
+        check_free(self.files, self.names.log.file.as_str())?;
+        self.make_whole(&self.names.log, head)
     }
 
     /// Begins a log that has this head and nothing after it, where there is no log. The log is put in its place once it
@@ -241,7 +236,7 @@ impl<'a, R: Files<File = File>> DataFolder<'a, R> {
         if self.log.is_none() {
             return Err(FolderFault::Write);
         }
-        let log = written(self.make_log(head))?;
+        let log = written(self.make_whole(&self.names.log, head))?;
         self.log = Some(log);
         Ok(())
     }
@@ -256,9 +251,7 @@ impl<'a, R: Files<File = File>> DataFolder<'a, R> {
         ensures same { self.new ≡ self.old }
         ensures fault { IfErr result (λ why. why ≡ FolderFault.Write) }
     {
-        let beside = self.names.new_checkpoint.as_str();
-        let place = self.names.checkpoint.as_str();
-        match self.make_whole(bytes, beside, place) {
+        match self.make_whole(&self.names.checkpoint, bytes) {
             Ok(_) => Ok(()),
             Err(_) => Err(FolderFault::Write),
         }
