@@ -83,10 +83,10 @@ def whole(program: Runner, story: Story, life: Life) -> Optional[str]:
     return fault(program, story, life, 0, b"")
 
 
-def at_each_call(program: Runner, story: Story, first: int, step: int) -> Ends:
+def at_each_call(program: Runner, story: Story, first: int, step: int, **more: object) -> Ends:
     for at in range(first, MOST_CALLS, step):
         program.clear()
-        life = live(program, story, 0, CRASH_AT=at)
+        life = live(program, story, 0, CRASH_AT=at, **more)
         if life.status != KILLED:
             yield f"no end before call {at}", whole(program, story, life)
             return
@@ -126,5 +126,8 @@ def failing_calls(program: Runner, story: Story, step: int) -> Ends:
 def all_ends(program: Runner, story: Story, many: Story, chance: Random, share: int) -> Iterator[tuple[str, Ends]]:
     """Of some lines of all kinds, and of many whose number each status shows."""
     yield "ends at each call, with checkpoints", at_each_call(program, story, chance.randrange(1, share + 1), share)
+    for loses, name in enumerate(("bytes gone", "zeros", "half gone"), 1):
+        first = chance.randrange(1, share + 1)
+        yield f"power cuts at each call, with checkpoints, {name}", at_each_call(program, story, first, share, CRASH_LOSES=loses)
     yield "lives with checkpoints", lives(program, many, chance)
     yield "calls that fail, with checkpoints", failing_calls(program, story, 1 + 3 * share // 4)

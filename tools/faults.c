@@ -10,8 +10,9 @@
 // INTERRUPT=M     each M-th read or write is interrupted
 // CRASH_AT=N      the N-th call that changes a file or the output, counted from 1, does a part of its work, a write half of its bytes and
 //                 any other nothing, and the process ends at once, as by kill -9. A sync is such a call
-// CRASH_LOSES=K   what isn't synced by then is lost, as by a power cut: a name that a rename gave, and the bytes that were written behind
-//                 a file's end; K is 1 if all of these are gone, 2 if they are zeros, and 3 if half of them are gone
+// CRASH_LOSES=K   what isn't synced by then is lost, as by a power cut: a name that a rename gave, which the file that it replaced has
+//                 again, and the bytes that were written behind a file's end; K is 1 if all of these are gone, 2 if they are zeros, and
+//                 3 if half of them are gone. What a rename replaces has a second name, NAME.replaced, until its folder is synced
 // FULL_AT=B       regular files take B bytes more in all, as on a disk that becomes full
 // QUICK_SYNC=1    a sync isn't waited for
 #define _GNU_SOURCE
@@ -66,8 +67,8 @@ static struct written {
     off_t synced;
 } files[16];
 static int count;
-// a rename that no sync of a folder has brought to the disk
-static char old_name[PATH_MAX], new_name[PATH_MAX];
+// a rename that no sync of a folder has brought to the disk, and a second name of the file that it replaced, if any
+static char old_name[PATH_MAX], new_name[PATH_MAX], replaced[PATH_MAX];
 
 static struct written *written_at(int file) {
     struct stat found;
@@ -90,20 +91,48 @@ static void note_opened(int file, const char *path, int flags) {
     it->synced = found.st_size;
 }
 
+// what was replaced is gone for good
+static void drop_replaced(void) {
+    if (!replaced[0]) return;
+    syscall(SYS_unlinkat, AT_FDCWD, replaced, 0);
+    for (int i = count - 1; i >= 0; i--)
+        if (strcmp(files[i].path, replaced) == 0) files[i] = files[--count];
+    replaced[0] = 0;
+}
+
+// keeps what a rename replaces, if anything has the name
+static void keep_replaced(const char *new) {
+    drop_replaced();
+    if (crash_loses == 0 || strlen(new) + sizeof ".replaced" > PATH_MAX) return;
+    stpcpy(stpcpy(replaced, new), ".replaced");
+    if (syscall(SYS_linkat, AT_FDCWD, new, AT_FDCWD, replaced, 0) != 0) replaced[0] = 0;
+}
+
 static void note_synced(int file) {
     struct stat found;
     struct written *it = written_at(file);
     if (fstat(file, &found) != 0) return;
     if (it != NULL) it->synced = found.st_size;
-    if (S_ISDIR(found.st_mode)) old_name[0] = 0;
+    if (!S_ISDIR(found.st_mode)) return;
+    old_name[0] = 0;
+    drop_replaced();
 }
 
 static void note_renamed(const char *old, const char *new) {
     if (strlen(old) >= PATH_MAX || strlen(new) >= PATH_MAX) return;
     strcpy(old_name, old);
     strcpy(new_name, new);
-    for (int i = 0; i < count; i++)
-        if (strcmp(files[i].path, old) == 0) strcpy(files[i].path, new);
+    for (int i = 0; i < count; i++) {
+        if (strcmp(files[i].path, new) == 0) strcpy(files[i].path, replaced);
+        else if (strcmp(files[i].path, old) == 0) strcpy(files[i].path, new);
+    }
+}
+
+// what was renamed has its old name again, and what it replaced the new one
+static void undo_rename(void) {
+    if (!old_name[0]) return;
+    syscall(SYS_renameat2, AT_FDCWD, new_name, AT_FDCWD, old_name, 0);
+    if (replaced[0]) syscall(SYS_renameat2, AT_FDCWD, replaced, AT_FDCWD, new_name, 0);
 }
 
 // the bytes behind a file's synced end
@@ -122,7 +151,7 @@ static void lose_end(const struct written *it) {
 
 static void crash(void) {
     for (int i = 0; crash_loses != 0 && i < count; i++) lose_end(&files[i]);
-    if (crash_loses != 0 && old_name[0]) syscall(SYS_renameat2, AT_FDCWD, new_name, AT_FDCWD, old_name, 0);
+    if (crash_loses != 0) undo_rename();
     syscall(SYS_kill, syscall(SYS_getpid), SIGKILL);
     for (;;) pause();
 }
@@ -280,8 +309,10 @@ int fdatasync(int file) { return synced(file, SYS_fdatasync); }
 int renameat(int old_folder, const char *old, int new_folder, const char *new) {
     if (fails("rename", EIO)) return -1;
     if (is_last()) crash();
+    keep_replaced(new);
     int result = syscall(SYS_renameat2, old_folder, old, new_folder, new, 0);
     if (result == 0) note_renamed(old, new);
+    else drop_replaced();
     return result;
 }
 
