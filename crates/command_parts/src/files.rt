@@ -1,6 +1,6 @@
 //! Files that are read whole and written whole, and one in memory.
 
-ghost use Rattle.std.specs.Prelude.{◌≡◌, ◌≢◌, ◌↔◌, ◌⊎◌, ⊤, ℕ, List, IfOk, IfErr, None, OnOk, OnErr, IsErrOf, string_bytes, true};
+ghost use Rattle.std.specs.Prelude.{◌≡◌, ◌≢◌, ◌↔◌, ◌⊎◌, ⊤, ℕ, List, [], IfOk, IfErr, None, OnOk, OnErr, IsErrOf, string_bytes, true};
 
 use line_protocol::Output;
 use log_host::{HostFault, LogFiles, LogHost, MemoryLog, OpenFault};
@@ -53,9 +53,11 @@ pub trait WholeFiles {
 
 /// What keeps the log of a folder of data.
 pub trait DataFiles: LogFiles {
-    /// From now on the log is brought to the disk where it is to be; or, without sync, nothing is done then.
+    /// From now on the log is brought to the disk where it is to be; or, without sync, nothing is done then. A checkpoint that is put in
+    /// its place, and a new log, are brought there in both cases.
     fn set_sync(&mut self, sync: bool)
         ensures synced { sync ≡ true → (Self.acts self.new ≡ Self.acts self.old) × (Self.begun self.new ≡ Self.begun self.old) }
+        ensures past { Self.past self.new ≡ Self.past self.old }
         ensures failed { Self.failed self.new ≡ Self.failed self.old };
 }
 
@@ -118,6 +120,8 @@ impl LogHost for MemoryFile {
 
     ghost acts = { λ _. None };
 
+    ghost past = { λ _. record { point = None; logs = [] } };
+
     ghost failed = { λ _. true };
 
     fn append(&mut self, _bytes: &[u8]) -> Result<(), HostFault> {
@@ -143,6 +147,14 @@ impl LogFiles for MemoryFile {
     }
 
     fn keep(&mut self, _length: usize) -> Result<(), HostFault> {
+        Err(HostFault)
+    }
+
+    fn checkpoint(&mut self, _alloc: Global) -> Result<Option<Vec<u8>>, OpenFault> {
+        Err(OpenFault::Write)
+    }
+
+    fn switch(&mut self, _checkpoint: &[u8], _head: &[u8]) -> Result<(), HostFault> {
         Err(HostFault)
     }
 }

@@ -1,6 +1,6 @@
 //! The folder of data of the host, as a log. Of what files of the system hold nothing is known.
 
-ghost use Rattle.std.specs.Prelude.{◌≡◌, OnErr, OnOk, None, true};
+ghost use Rattle.std.specs.Prelude.{◌≡◌, [], OnErr, OnOk, None, true};
 
 use crate::failure::say_bytes;
 use crate::files::DataFiles;
@@ -53,6 +53,16 @@ fn open_folder<'a, R: Files<File = File>>(
     Ok((folder, found))
 }
 
+/// Puts a checkpoint in its place, and then a log of this head in place of the one that is there.
+fn switch_log<R: Files<File = File>>(
+    folder: &mut DataFolder<'_, R>,
+    checkpoint: &[u8],
+    head: &[u8],
+) -> Result<(), FolderFault> {
+    folder.place_checkpoint(checkpoint)?;
+    folder.replace_log(head)
+}
+
 /// Notes whether a call went well.
 fn note(failed: &mut bool, done: bool) -> Result<(), HostFault>
     ensures ok { OnOk result (failed.new ≡ failed.old) }
@@ -69,6 +79,8 @@ impl<R: Files<File = File> + AllocGlobal> LogHost for HostFiles<'_, R> {
     ghost begun = { λ _. None };
 
     ghost acts = { λ _. None };
+
+    ghost past = { λ _. record { point = None; logs = [] } };
 
     ghost failed = { λ files. files.data.failed };
 
@@ -125,6 +137,29 @@ impl<R: Files<File = File> + AllocGlobal> LogFiles for HostFiles<'_, R> {
     fn keep(&mut self, length: usize) -> Result<(), HostFault> {
         let done = match &mut self.data.folder {
             Some(folder) => folder.keep(length).is_ok(),
+            None => false,
+        };
+        note(&mut self.data.failed, done)
+    }
+
+    fn checkpoint(&mut self, alloc: Global) -> Result<Option<Vec<u8>>, OpenFault> {
+        let read = match &self.data.folder {
+            Some(folder) => folder.read_checkpoint(alloc),
+            None => Err(FolderFault::Read),
+        };
+        match read {
+            Ok(found) => Ok(found),
+            Err(why) => {
+                self.data.failed = true;
+                Err(open_fault(why))
+            }
+        }
+    }
+
+    // Both are brought to the disk, whether the log is or not.
+    fn switch(&mut self, checkpoint: &[u8], head: &[u8]) -> Result<(), HostFault> {
+        let done = match &mut self.data.folder {
+            Some(folder) => switch_log(folder, checkpoint, head).is_ok(),
             None => false,
         };
         note(&mut self.data.failed, done)

@@ -1,6 +1,6 @@
 //! A file whose end is not met.
 
-ghost use Rattle.std.specs.Prelude.{None, true};
+ghost use Rattle.std.specs.Prelude.{[], None, true};
 
 use crate::runs::left_by;
 use log_host::{HostFault, LogFiles, LogHost, OpenFault};
@@ -31,6 +31,8 @@ impl LogHost for EndlessFile {
 
     ghost acts = { λ _. None };
 
+    ghost past = { λ _. record { point = None; logs = [] } };
+
     ghost failed = { λ _. true };
 
     fn append(&mut self, _bytes: &[u8]) -> Result<(), HostFault> {
@@ -56,6 +58,14 @@ impl LogFiles for EndlessFile {
     }
 
     fn keep(&mut self, _length: usize) -> Result<(), HostFault> {
+        Err(HostFault)
+    }
+
+    fn checkpoint(&mut self, _alloc: Global) -> Result<Option<Vec<u8>>, OpenFault> {
+        Err(OpenFault::Write)
+    }
+
+    fn switch(&mut self, _checkpoint: &[u8], _head: &[u8]) -> Result<(), HostFault> {
         Err(HostFault)
     }
 }

@@ -1,6 +1,6 @@
 //! What was answered is kept in a folder of data, from one run to the next.
 
-ghost use Rattle.std.specs.Prelude.{◌≡◌, None};
+ghost use Rattle.std.specs.Prelude.{◌≡◌, [], None};
 
 use crate::runs::{Left, left_by};
 use log_host::{Did, Fuse, HostFault, LogFiles, LogHost, MemoryLog, OpenFault};
@@ -33,6 +33,8 @@ impl LogHost for Folder {
 
     ghost acts = { λ _. None };
 
+    ghost past = { λ _. record { point = None; logs = [] } };
+
     ghost failed = { λ folder. folder.log.failed };
 
     fn append(&mut self, bytes: &[u8]) -> Result<(), HostFault> {
@@ -59,6 +61,14 @@ impl LogFiles for Folder {
 
     fn keep(&mut self, length: usize) -> Result<(), HostFault> {
         self.log.keep(length)
+    }
+
+    fn checkpoint(&mut self, alloc: Global) -> Result<Option<Vec<u8>>, OpenFault> {
+        self.log.checkpoint(alloc)
+    }
+
+    fn switch(&mut self, checkpoint: &[u8], head: &[u8]) -> Result<(), HostFault> {
+        self.log.switch(checkpoint, head)
     }
 }
 
