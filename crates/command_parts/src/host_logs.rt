@@ -53,6 +53,17 @@ fn open_folder<'a, R: Files<File = File>>(
     Ok((folder, found))
 }
 
+/// A log of this head, in place of the one that is there, if there is one.
+fn begin_in<R: Files<File = File>>(
+    folder: &mut DataFolder<'_, R>,
+    head: &[u8],
+) -> Result<(), FolderFault> {
+    if folder.has_log() {
+        return folder.replace_log(head);
+    }
+    folder.begin_log(head)
+}
+
 /// Puts a checkpoint in its place, and then a log of this head in place of the one that is there.
 fn switch_log<R: Files<File = File>>(
     folder: &mut DataFolder<'_, R>,
@@ -128,7 +139,7 @@ impl<R: Files<File = File> + AllocGlobal> LogFiles for HostFiles<'_, R> {
 
     fn begin(&mut self, head: &[u8]) -> Result<(), HostFault> {
         let done = match &mut self.data.folder {
-            Some(folder) => folder.begin_log(head).is_ok(),
+            Some(folder) => begin_in(folder, head).is_ok(),
             None => false,
         };
         note(&mut self.data.failed, done)

@@ -1,6 +1,6 @@
 //! A folder of data, held by one process.
 
-ghost use Rattle.std.specs.Prelude.{◌≡◌, ◌≢◌, None, IfErr, IfOk, IfSome, IsErrOf, IsSome, OnErr, OnOk};
+ghost use Rattle.std.specs.Prelude.{◌≡◌, ◌≢◌, ◌↔◌, None, IfErr, IfOk, IfSome, IsErrOf, IsSome, IsTrue, OnErr, OnOk};
 ghost use Rattle.host_log.specs.Names.{Named};
 
 use crate::fault::{FolderFault, reading_fault, written};
@@ -194,6 +194,13 @@ impl<'a, R: Files<File = File>> DataFolder<'a, R> {
     fn make_first_log(&self, head: &[u8]) -> io::Result<File> {
         check_free(self.files, self.names.log.file.as_str())?;
         self.make_whole(&self.names.log, head)
+    }
+
+    /// Whether a log is open.
+    pub fn has_log(&self) -> bool
+        ensures { IsTrue result ↔ IsSome self.now.log }
+    {
+        self.log.is_some()
     }
 
     /// Begins a log that has this head and nothing after it, where there is no log. The log is put in its place once it

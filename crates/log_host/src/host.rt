@@ -123,7 +123,8 @@ pub trait LogFiles: LogHost {
     ///
     /// Those of `OpenFault`; all is as it was.
     fn checkpoint(&mut self, alloc: Global) -> Result<Option<Vec<u8>>, OpenFault>
-        ensures ok { IfOk result (λ found. Self.acts self.old ≡ Some [] → (Self.past self.old).point ≡ option_map (λ bytes. bytes.items) found) }
+        ensures ok { IfOk result (λ found. Self.acts self.old ≡ Some []
+            → (Self.past self.old).point ≡ option_map (λ bytes. bytes.items) found) }
         ensures begun { Self.begun self.new ≡ Self.begun self.old }
         ensures acts { Self.acts self.new ≡ Self.acts self.old }
         ensures past { Self.past self.new ≡ Self.past self.old }

@@ -1,6 +1,6 @@
 //! A log in memory, for trials of what fails.
 
-ghost use Rattle.std.specs.Prelude.{◌≡◌, ◌⊎◌, true, false, [], ◌∷◌, ◌++◌, None, Some, IfOk, OnErr, OnOk, map, option_map};
+ghost use Rattle.std.specs.Prelude.{◌≡◌, ◌⊎◌, true, false, [], ◌∷◌, ◌++◌, None, Some, IfErr, IfOk, OnErr, OnOk, map, option_map};
 ghost use Rattle.std.specs.Io.KnownBytes.{Appends};
 ghost use Rattle.line_protocol.specs.LineRuns.{WrittenInPart};
 ghost use Rattle.log_host.specs.Acts.{Adds, AddsPart, TellsPart, synced, told, wrote};
@@ -153,6 +153,20 @@ impl MemoryLog {
     }
 }
 
+/// A copy of the bytes, if there are any.
+fn copy_of(alloc: Global, bytes: &Option<Vec<u8>>) -> Result<Option<Vec<u8>>, OpenFault>
+    ensures copy { IfOk result (λ copy. option_map bytes_in copy ≡ option_map bytes_in bytes.now) }
+    ensures fault { IfErr result (λ why. why ≡ OpenFault.Memory) }
+{
+    let Some(bytes) = bytes else {
+        return Ok(None);
+    };
+    match Vec::from_slice(alloc, bytes.as_slice()) {
+        Ok(copy) => Ok(Some(copy)),
+        Err(_) => Err(OpenFault::Memory),
+    }
+}
+
 /// Writes all of the bytes to the output, and lets them out.
 #[tactic(auto, using(crate::proofs::Known::all_written))]
 fn write_out<W: Write>(output: &mut Output<W>, bytes: &[u8]) -> Result<(), LineFault>
@@ -251,13 +265,7 @@ impl LogFiles for MemoryLog {
             self.failed = true;
             return Err(OpenFault::Read);
         }
-        let Some(bytes) = &self.begun else {
-            return Ok(None);
-        };
-        match Vec::from_slice(alloc, bytes.as_slice()) {
-            Ok(copy) => Ok(Some(copy)),
-            Err(_) => Err(OpenFault::Memory),
-        }
+        copy_of(alloc, &self.begun)
     }
 
     fn begin(&mut self, head: &[u8]) -> Result<(), HostFault> {
@@ -284,13 +292,7 @@ impl LogFiles for MemoryLog {
             self.failed = true;
             return Err(OpenFault::Read);
         }
-        let Some(bytes) = &self.point else {
-            return Ok(None);
-        };
-        match Vec::from_slice(alloc, bytes.as_slice()) {
-            Ok(copy) => Ok(Some(copy)),
-            Err(_) => Err(OpenFault::Memory),
-        }
+        copy_of(alloc, &self.point)
     }
 
     fn switch(&mut self, checkpoint: &[u8], head: &[u8]) -> Result<(), HostFault> {
