@@ -14,7 +14,7 @@ from journal_parted import Parted
 from journal_redone import Done, Redone
 from journal_words import shortened
 from slow_silo.journal import step_fields
-from slow_silo.lines import object_of
+from slow_silo.replies import object_of
 from slow_silo.machine import Request
 from slow_silo.names import Grain
 from slow_silo.steps import Abandon, Activate, Begin, Call, Client, Deliver, End, Load, Poke, Reply, Step, Store, Sweep

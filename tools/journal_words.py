@@ -7,7 +7,7 @@ import json
 from typing import Optional
 
 from journal_redone import Done
-from slow_silo.lines import object_of
+from slow_silo.replies import object_of
 from slow_silo.machine import READY, Machine
 from slow_silo.steps import (Abandon, Activate, Begin, Call, Client, Deliver, End, Load, Poke, Refuse, Reply, Status, Store,
                              Sweep, Tick)

@@ -6,7 +6,8 @@ import json
 from random import Random
 from typing import Iterable, Optional
 
-from slow_silo.lines import MAX_LINE, object_of
+from slow_silo.lines import MAX_LINE
+from slow_silo.replies import object_of
 from slow_silo.values import MAX_MESSAGE, message_length
 
 BAD_GRAINS = [

@@ -58,6 +58,14 @@ def answer(silo: Silo, step: Step, most: int) -> str:
     return done
 
 
+def answer_step(silo: Silo, step: Step, most: int) -> list[str]:
+    """The lines that are written for what is asked."""
+    before = len(silo.replies)
+    if answer(silo, step, most) == NOT_NOW:
+        return [NOT_NOW_TEXT]
+    return [reply_text(reply) for reply in silo.replies[before:]]
+
+
 def answer_line(silo: Silo, line: bytes, most: int) -> list[str]:
     """The lines that are written for a line."""
     said = read_line(line)
@@ -67,10 +75,7 @@ def answer_line(silo: Silo, line: bytes, most: int) -> list[str]:
         return [refusal_text(said)]
     if not is_asked(said):
         return [refusal_text(codes.NOT_A_REQUEST)]
-    before = len(silo.replies)
-    if answer(silo, said, most) == NOT_NOW:
-        return [NOT_NOW_TEXT]
-    return [reply_text(reply) for reply in silo.replies[before:]]
+    return answer_step(silo, said, most)
 
 
 def answer_lines(silo: Silo, pieces: Iterable[bytes], most: int, write: Callable[[bytes], None]) -> int:

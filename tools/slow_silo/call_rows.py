@@ -11,10 +11,11 @@ from typing import Callable, Iterable
 from .audit import audit
 from .journal import journal_of, journal_text, migrate_journal, read_journal
 from .laws import first_broken
-from .lines import ReaderFailed, WriterFailed, compact, read_line, run_lines
+from .lines import ReaderFailed, WriterFailed, read_line, run_lines
 from .machine import Limits
 from .names import read_caller, read_grain
 from .program import run_program, setup_of_words
+from .replies import compact
 from .row import Row
 from .rows import FIRST_CALL, LANES, OVERWRITTEN, ROWS
 from .serve import Lane, are_distinct, lanes_of, serve

@@ -3,10 +3,15 @@
 Lists have their lengths before them. The rows, the ages and the tenants' limits stand in a journal of no step. The last line has the sum
 of all bytes before it.
 
+There are two forms of it. The second also tells how many receipts and bytes a tenant may have, whether tenants come and go by lines, and each
+account's callers, with their greatest numbers and their receipts. A checkpoint is written in the first if it says nothing of these.
+
 A text that is none is refused at its first line that fits no form in its place, behind the lines before it, counted from 1; what comes
 after the last LF is no line yet. So a length that is too great or too small is refused where a line of the list is missing or is one too
 many. The accounts are those of the journal's tenants, in their order: a `tenant` line of another is refused, and a missing one at the line
-in its place. A send's source is a grain of the account's tenant. A wrong sum is refused at the last line, and any byte behind that line at
+in its place. A send's source is a grain of the account's tenant, and a caller is one of it; callers ascend, and a caller's receipts do, by
+their numbers, up to its greatest. A receipt is a reply, as a journal has it, and not a line: so whatever a forged one says, it is told to
+its caller under its number. A wrong sum is refused at the last line, and any byte behind that line at
 the next one.
 """
 
@@ -16,16 +21,20 @@ import re
 from functools import partial
 from typing import NamedTuple, Optional
 
-from .journal import (LAST_FORM, LAST_VERSION, MAX_NUMBER, MAX_TENANTS, Reader, RefusedAt, fits, grain, journal_of, journal_text, message,
-                      number, read_age, read_journal, read_kind, read_kinds, read_row, read_tenant, split, state)
+from . import codes
+from .journal import (LAST_FORM, LAST_VERSION, MAX_NUMBER, MAX_TENANTS, Reader, RefusedAt, caller, fits, grain, journal_of, journal_text,
+                      message, number, read_age, read_journal, read_kind, read_kinds, read_reply, read_row, read_tenant, reply_fields, split,
+                      state)
 from .kinds import Logic, Send
-from .log import DIGITS, spelled as sum_spelled, sum_after
+from .log import DIGITS, more_lines, spelled as sum_spelled, sum_after
 from .machine import READY, Entry
-from .names import Grain, is_word
+from .names import Caller, Grain, is_word
+from .receipts import MAX_REPLIES, record_of
 from .silo import Setup, Silo
+from .steps import Client, Reply
 from .values import spelled, spelled_message
 
-HEAD = "silo-checkpoint 1"
+FORMS = FIRST, SECOND = "silo-checkpoint 1", "silo-checkpoint 2"
 IS_SUM = re.compile("[0-9a-f]{%d}" % DIGITS, re.ASCII).fullmatch
 
 
@@ -40,12 +49,22 @@ class KeptSend(NamedTuple):
     args: object
 
 
+class KeptCaller(NamedTuple):
+    caller: Caller
+    # the greatest number that acted
+    last: int
+    # what isn't seen yet, ascending by its number
+    replies: tuple[Reply, ...] = ()
+
+
 class KeptAccount(NamedTuple):
     tenant: str
     # how many requests were accepted
     count: int
     # what its grains sent and isn't delivered, the oldest first
     sends: tuple[KeptSend, ...] = ()
+    # ascending
+    callers: tuple[KeptCaller, ...] = ()
 
 
 class KeptGrain(NamedTuple):
@@ -67,26 +86,53 @@ class Checkpoint(NamedTuple):
     grains: tuple[KeptGrain, ...]
     # the journal of no step
     journal: bytes
+    # those of the second form
+    replies: Optional[int] = None
+    room: Optional[int] = None
+    operator: bool = False
+
+    def says_more(self) -> bool:
+        """Whether it says something that the first form hasn't."""
+        more = self.replies, self.room, self.operator
+        return more != (None, None, False) or any(account.callers for account in self.accounts)
 
 
 # ---- writing
 
 def checkpoint_of(silo: Silo, follows: int, sends: int) -> Checkpoint:
     """What is kept of a silo in which nothing waits and no turn is open."""
-    machines = [silo.machine(tenant) for tenant, _limits in silo.setup.tenants]
-    accounts = tuple(KeptAccount(machine.tenant, machine.count, tuple(KeptSend(source, sent.target, sent.method, sent.args)
-                                                                        for source, sent in machine.sends)) for machine in machines)
+    setup = silo.setup
+    accounts = tuple(account_of(silo, tenant) for tenant, _limits in setup.tenants)
     grains = sorted(KeptGrain(at, entry.version, entry.last, entry.until, entry.state)
-                    for machine in machines for at, entry in machine.entries.items())
-    return Checkpoint(follows, sends, silo.clock, accounts, tuple(grains), journal_text(journal_of(silo)._replace(steps=(), replies=())))
+                    for tenant, _limits in setup.tenants for at, entry in silo.machine(tenant).entries.items())
+    journal = journal_text(journal_of(silo)._replace(steps=(), replies=()))
+    return Checkpoint(follows, sends, silo.clock, accounts, tuple(grains), journal, setup.replies, setup.room, setup.operator)
+
+
+def account_of(silo: Silo, tenant: str) -> KeptAccount:
+    machine = silo.machine(tenant)
+    sends = tuple(KeptSend(source, sent.target, sent.method, sent.args) for source, sent in machine.sends)
+    callers = tuple(KeptCaller(caller, record.last, tuple(receipt.reply for receipt in record.receipts))
+                    for caller, record in silo.receipts.of(tenant))
+    return KeptAccount(tenant, machine.count, sends, callers)
+
+
+def account_lines(account: KeptAccount, form: str) -> list:
+    """The fields of its lines in a checkpoint of the form."""
+    callers = [len(account.callers)] if form == SECOND else []
+    lines: list = [["account", account.tenant, account.count, len(account.sends), *callers]]
+    lines += [["send", it.source.text(), it.target.text(), spelled_message(it.method, it.args).hex()] for it in account.sends]
+    for it in account.callers:
+        lines += [["caller", it.caller.text(), it.last, len(it.replies)], *(["receipt", *reply_fields(reply)] for reply in it.replies)]
+    return lines
 
 
 def checkpoint_text(checkpoint: Checkpoint) -> bytes:
-    lines = [[HEAD], ["follows", sum_spelled(checkpoint.follows).decode()], ["sends", checkpoint.sends], ["clock", checkpoint.clock],
-             ["accounts", len(checkpoint.accounts)]]
-    for account in checkpoint.accounts:
-        lines += [["account", account.tenant, account.count, len(account.sends)]]
-        lines += [["send", it.source.text(), it.target.text(), spelled_message(it.method, it.args).hex()] for it in account.sends]
+    form = SECOND if checkpoint.says_more() else FIRST
+    lines = [[form], ["follows", sum_spelled(checkpoint.follows).decode()], ["sends", checkpoint.sends]]
+    lines += [[line] for line in more_lines(checkpoint.replies, checkpoint.room, checkpoint.operator) if form == SECOND]
+    lines += [["clock", checkpoint.clock], ["accounts", len(checkpoint.accounts)]]
+    lines += [fields for account in checkpoint.accounts for fields in account_lines(account, form)]
     lines += [["grains", len(checkpoint.grains)]]
     lines += [["up", it.grain.text(), "-" if it.version is None else it.version, it.last, it.until, spelled(it.state).hex()]
               for it in checkpoint.grains]
@@ -113,10 +159,22 @@ def read_follows(line: str, _before: list) -> int:
     return int(digits, 16)
 
 
-def read_account(line: str, _before: list) -> tuple[str, int, int]:
-    tenant, count, sends = fields("account", line, 3)
+def read_form(line: str, _before: list) -> str:
+    fits(line in FORMS)
+    return line
+
+
+def read_bound(word: str, most: int, line: str, _before: list) -> Optional[int]:
+    """A number from 1 on, or none."""
+    found, = fields(word, line, 1)
+    return None if found == "-" else number(found, 1, most)
+
+
+def read_account(form: str, line: str, _before: list) -> tuple[str, int, int, int]:
+    """How many sends and callers it has, too."""
+    tenant, count, sends, *callers = fields("account", line, 4 if form == SECOND else 3)
     fits(is_word(tenant))
-    return tenant, number(count), number(sends, most=LAST_VERSION)
+    return tenant, number(count), number(sends, most=LAST_VERSION), *(number(it, most=LAST_VERSION) for it in callers or ["0"])
 
 
 def read_send(tenant: str, line: str, _before: list) -> KeptSend:
@@ -124,6 +182,20 @@ def read_send(tenant: str, line: str, _before: list) -> KeptSend:
     source, target, said = fields("send", line, 3)
     fits(grain(source).tenant == tenant)
     return KeptSend(grain(source), grain(target), *message(LAST_FORM, said))
+
+
+def read_caller(tenant: str, before: Optional[Caller], line: str, _before: list) -> tuple[Caller, int, int]:
+    """One of the tenant that is greater than the one before, its greatest number, and how many receipts it has."""
+    who, last, replies = fields("caller", line, 3)
+    fits(caller(who).tenant == tenant and (before is None or before < caller(who)))
+    return caller(who), number(last), number(replies, most=LAST_VERSION)
+
+
+def read_receipt(who: Caller, least: int, last: int, line: str, before: list) -> Reply:
+    """One of the caller under a number in these bounds."""
+    reply = read_reply(line, before, LAST_FORM, "receipt", (*codes.TEXTS, codes.NO_ROOM))
+    fits(isinstance(reply.to, Client) and reply.to.caller == who and least <= reply.to.id <= last)
+    return reply
 
 
 def read_grain(before: Optional[Grain], line: str, _before: list) -> KeptGrain:
@@ -141,11 +213,24 @@ def read_named_tenant(names: list[str], line: str, before: list) -> tuple:
     return found
 
 
-def take_accounts(reader: Reader) -> tuple[KeptAccount, ...]:
+def take_accounts(reader: Reader, form: str) -> tuple[KeptAccount, ...]:
     found = []
     for _ in range(reader.next(partial(read_number, "accounts", 1, MAX_TENANTS))):
-        tenant, count, sends = reader.next(read_account)
-        found.append(KeptAccount(tenant, count, tuple(reader.next(partial(read_send, tenant)) for _ in range(sends))))
+        tenant, count, sends, callers = reader.next(partial(read_account, form))
+        sent = tuple(reader.next(partial(read_send, tenant)) for _ in range(sends))
+        found.append(KeptAccount(tenant, count, sent, take_callers(reader, tenant, callers)))
+    return tuple(found)
+
+
+def take_callers(reader: Reader, tenant: str, count: int) -> tuple[KeptCaller, ...]:
+    found: list[KeptCaller] = []
+    for _ in range(count):
+        who, last, receipts = reader.next(partial(read_caller, tenant, found[-1].caller if found else None))
+        replies: list[Reply] = []
+        for _ in range(receipts):
+            least = replies[-1].to.id + 1 if replies else 0
+            replies.append(reader.next(partial(read_receipt, who, least, last)))
+        found.append(KeptCaller(who, last, tuple(replies)))
     return tuple(found)
 
 
@@ -179,17 +264,24 @@ def read_checkpoint(text: bytes) -> Checkpoint:
 
 
 def take_checkpoint(reader: Reader) -> Checkpoint:
-    reader.next(lambda line, _before: fits(line == HEAD))
+    form = reader.next(read_form)
     follows = reader.next(read_follows)
     sends = reader.next(partial(read_number, "sends", 0, LAST_VERSION))
+    more = take_more(reader) if form == SECOND else (None, None, False)
     clock = reader.next(partial(read_number, "clock", 0, MAX_NUMBER))
-    accounts, grains = take_accounts(reader), take_grains(reader)
+    accounts, grains = take_accounts(reader, form), take_grains(reader)
     journal = take_journal(reader, [account.tenant for account in accounts])
     after = sum_spelled(sum_after(0, reader.text(0, reader.place))).decode()
     reader.next(lambda line, _before: fits(line == f"sum {after}"))
     if reader.place < len(reader.lines) or reader.rest:
         raise reader.refused()
-    return Checkpoint(follows, sends, clock, accounts, grains, journal)
+    return Checkpoint(follows, sends, clock, accounts, grains, journal, *more)
+
+
+def take_more(reader: Reader) -> tuple[Optional[int], Optional[int], bool]:
+    replies = reader.next(partial(read_bound, "replies", MAX_REPLIES))
+    room = reader.next(partial(read_bound, "bytes", MAX_NUMBER))
+    return replies, room, reader.next(partial(read_number, "operator", 0, 1)) == 1
 
 
 def sum_of(text: bytes) -> int:
@@ -202,7 +294,8 @@ def sum_of(text: bytes) -> int:
 def own_setup(checkpoint: Checkpoint) -> Setup:
     """That of the silo that was left."""
     journal = read_journal(checkpoint.journal)
-    return Setup(journal.tenants, journal.age, journal.ages, journal.rows, logic=Logic(journal.kinds))
+    more = checkpoint.room, checkpoint.replies, checkpoint.operator
+    return Setup(journal.tenants, journal.age, journal.ages, journal.rows, (), Logic(journal.kinds), *more)
 
 
 def entry_of(it: KeptGrain) -> Entry:
@@ -224,6 +317,7 @@ def reopened(checkpoint: Checkpoint, setup: Setup) -> Silo:
             machine = silo.machine(account.tenant)
             machine.count = account.count
             machine.sends = [(it.source, Send(it.target, it.method, it.args)) for it in account.sends]
+            silo.receipts.records |= {it.caller: record_of(it.last, it.replies) for it in account.callers}
     for it in checkpoint.grains:
         silo.machine(it.grain.tenant).entries[it.grain] = entry_of(it)
     return silo

@@ -45,9 +45,25 @@ TEXTS = {
     NO_MEMORY: "turn met want of memory",
 }
 
+# What `answer` with a folder of data tells too, if its words say so (receipts.py, tenants.py, room.py). No journal has these.
+WAS_ANSWERED = 15
+NOT_SEEN = 44
+MANY_CALLERS = 45
+TABLE_SIZE = 46
+HAS_SOMETHING = 47
+NO_ROOM = 57
+TEXTS_BESIDE = {
+    WAS_ANSWERED: "request {} was answered",
+    NOT_SEEN: "too many replies of {} were not seen",
+    MANY_CALLERS: "tenant {} has too many callers",
+    TABLE_SIZE: "there may be 1 to 1000 tenants",
+    HAS_SOMETHING: "tenant {} has {} requests, {} sends, {} activations, {} rows, {} callers",
+    NO_ROOM: "tenant {} has no room left",
+}
+
 # The codes with which a line of a form may be refused: such a refusal is a step of its caller.
 LINE_REFUSALS = (TOO_LONG, TOO_DEEP, NOT_WHOLE, NOT_BYTES, BAD_GRAIN, STATE_TOO_LARGE)
 
 
-def text_of(code: int, *names: str) -> str:
-    return TEXTS[code].format(*names)
+def text_of(code: int, *names: object) -> str:
+    return (TEXTS.get(code) or TEXTS_BESIDE[code]).format(*names)

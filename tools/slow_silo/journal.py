@@ -11,7 +11,7 @@ from __future__ import annotations
 import re
 from functools import lru_cache, partial
 from itertools import islice
-from typing import Callable, NamedTuple, Optional
+from typing import Callable, Collection, NamedTuple, Optional
 
 from . import codes
 from .kinds import NEWEST
@@ -232,15 +232,15 @@ def read_step(line: str, _before: list, form: int = LAST_FORM) -> Step:
     return read(form, *fields)
 
 
-def read_reply(line: str, _before: list, form: int) -> Reply:
+def read_reply(line: str, _before: list, form: int, word: str = "reply", among: Collection[int] = codes.TEXTS) -> Reply:
     fields = line.split(" ", 5)
-    fits(fields[0] == "reply" and len(fields) >= 5)
+    fits(fields[0] == word and len(fields) >= 5)
     to = grain(fields[1]) if fields[2] == "-" else Client(caller(fields[1]), number(fields[2]))
     if fields[3] == "ok":
         fits(len(fields) == 5)
         return Reply(to, state(form, fields[4]))
     fits(fields[3] == "no" and len(fields) == 6 and re.fullmatch("[ -~]+", fields[5], re.ASCII))
-    return Reply(to, code=code(form, codes.TEXTS, fields[4]), text=fields[5])
+    return Reply(to, code=code(form, among, fields[4]), text=fields[5])
 
 
 def read_row(line: str, before: list, form: int) -> tuple[Grain, Row]:

@@ -2,23 +2,18 @@
 
 from __future__ import annotations
 
-import json
 import re
 from typing import Callable, Iterable, Optional, Union
 
 from . import codes, plain_json
 from .names import read_caller, read_grain
+from .replies import HEX, compact, reply_text
 from .silo import NOT_NOW, Silo
-from .steps import (Abandon, Activate, Begin, Call, Client, Deliver, End, Load, Poke, Refuse, Reply, Status,
-                    Step, Store, Sweep, Tick)
+from .steps import Abandon, Activate, Begin, Call, Deliver, End, Load, Poke, Refuse, Status, Step, Store, Sweep, Tick
 from .values import (MAX_DEPTH, MAX_MESSAGE, MAX_STATE, depth, is_whole, leaves, message_length, spelled_length)
 
 MAX_LINE = 65_536
 MAX_LINES = 1_000_000
-
-
-# the only member of an object that stands for bytes
-HEX = "$hex"
 
 
 class NotARequest(Exception):
@@ -70,15 +65,15 @@ def of_type(kind: type, value: object) -> object:
     return value
 
 
-def members_of(line: bytes) -> dict:
-    """The members that a line's form has."""
+def members_of(line: bytes, forms: dict) -> dict:
+    """The members that the line's form has, which is one of these."""
     try:
         said = plain_json.read(line)
     except plain_json.NotJson as error:
         raise NotARequest from error
-    if not isinstance(said, dict) or not isinstance(said.get("op"), str) or said["op"] not in FORMS:
+    if not isinstance(said, dict) or not isinstance(said.get("op"), str) or said["op"] not in forms:
         raise NotARequest
-    needed, left_out = FORMS[said["op"]]
+    needed, left_out = forms[said["op"]]
     names = set(said) - {"op"}
     if not set(needed) <= names <= set(needed) | set(left_out):
         raise NotARequest
@@ -160,38 +155,19 @@ def refusal(said: dict, value: object) -> Optional[int]:
     return codes.BAD_GRAIN if read_grain(said["grain"]) is None else None
 
 
-def read_line(line: bytes) -> Union[Step, int, None]:
-    """A step, the code of a refusal that is no step, or nothing."""
+def read_line(line: bytes, forms: dict = FORMS, meaning: Callable = step_said) -> Union[Step, int, None]:
+    """A step, the code of a refusal that is no step, or nothing. With other forms, what their members mean is in the place of a step."""
     if line == b"":
         return None
     if len(line) > MAX_LINE:
         return codes.TOO_LONG
     try:
-        return step_said(members_of(line))
+        return meaning(members_of(line, forms))
     except NotARequest:
         return codes.NOT_A_REQUEST
 
 
 # ---- what is written
-
-def object_of(data: bytes) -> dict:
-    """The object that stands for bytes."""
-    return {HEX: data.hex()}
-
-
-def compact(members: dict) -> str:
-    return json.dumps(members, ensure_ascii=False, separators=(",", ":"), sort_keys=True, default=object_of)
-
-
-def reply_text(reply: Reply) -> str:
-    if isinstance(reply.to, Client):
-        to = {"from": reply.to.caller.text(), "id": reply.to.id}
-    else:
-        to = {"from": reply.to.text()}
-    if reply.code is None:
-        return compact({**to, "ok": reply.value})
-    return compact({**to, "error": reply.code, "text": reply.text})
-
 
 def refusal_text(code: int) -> str:
     """What is written for a line that is no step."""

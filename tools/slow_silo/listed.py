@@ -12,8 +12,8 @@ from __future__ import annotations
 from typing import Optional
 
 from .checkpoint import Checkpoint, KeptGrain, own_setup
-from .lines import compact
 from .names import Grain
+from .replies import compact
 from .storage import CLEARED, Row
 
 

@@ -3,6 +3,9 @@
 A mark has the log's name, the length of its batch's lines, the sum of all that was told so far, and the sum of all bytes of the log
 before it. What stands after the last batch whose mark fits was never acknowledged, if a crash can have left it: then it has no mark of
 the log, or the one of a batch that was half written, which stands in its place. Anything else is refused.
+
+There are two forms of it. The second also tells how many receipts and bytes a tenant may have, and whether tenants come and go by lines; a
+log is written in the first if nothing is said of these.
 """
 
 from __future__ import annotations
@@ -10,7 +13,7 @@ from __future__ import annotations
 import struct
 from typing import NamedTuple, Optional, Sequence
 
-FORM = b"silo-log 1\n"
+FORM, SECOND_FORM = FORMS = b"silo-log 1\n", b"silo-log 2\n"
 NAME = 8
 DIGITS = 16
 WORD = 2**64 - 1
@@ -63,17 +66,36 @@ class Words(NamedTuple):
     # kinds with an age of their own, and tenants with their limits
     ages: tuple = ()
     tenants: tuple = ()
+    # those of the second form
+    replies: Optional[int] = None
+    room: Optional[int] = None
+    operator: bool = False
+
+    def say_more(self) -> bool:
+        """Whether they say something that the first form hasn't."""
+        return (self.replies, self.room, self.operator) != (None, None, False)
+
+
+def more_lines(replies: Optional[int], room: Optional[int], operator: bool) -> list[str]:
+    """What the second form says more, of logs and of checkpoints."""
+    return [f"replies {'-' if replies is None else replies}", f"bytes {'-' if room is None else room}", f"operator {int(operator)}"]
 
 
 def words_text(words: Words) -> bytes:
-    lines = [f"kinds {words.kinds}", f"sends {words.sends}", f"age {words.age}"]
+    lines = [f"kinds {words.kinds}", f"sends {words.sends}"]
+    lines += more_lines(words.replies, words.room, words.operator) if words.say_more() else []
+    lines += [f"age {words.age}"]
     lines += [f"kind {kind} {age}" for kind, age in words.ages]
     lines += [f"tenant {tenant} {act} {mail}" for tenant, act, mail in words.tenants]
-    return "".join(line + "\n" for line in lines).encode()
+    return form_of(words) + "".join(line + "\n" for line in lines).encode()
+
+
+def form_of(words: Words) -> bytes:
+    return SECOND_FORM if words.say_more() else FORM
 
 
 def head_with(words: Words, number: bytes) -> bytes:
-    start = FORM + words_text(words) + b"of " + number + b" "
+    start = words_text(words) + b"of " + number + b" "
     return start + spelled(sum_after(0, start)) + b"\n"
 
 
@@ -135,9 +157,9 @@ class Read(NamedTuple):
 
 def cut_head(words: Words, content: bytes) -> tuple:
     """The number in the head, and where the head ends."""
-    if not content.startswith(FORM):
+    if not content.startswith(FORMS if words.say_more() else FORM):
         raise NotALog()
-    at = len(FORM + words_text(words) + b"of ")
+    at = len(words_text(words) + b"of ")
     number = content[at:at + DIGITS]
     head = head_with(words, number)
     if not content.startswith(head) or b"\n" in number:
@@ -157,7 +179,7 @@ def numbered_head(content: bytes) -> Optional[Numbered]:
     at = content.find(b"\nof ") + 1
     number = content[at:].partition(b"\n")[0][len(b"of "):][:DIGITS]
     start = content[:at] + b"of " + number + b" "
-    if not at or not content.startswith(FORM) or not content.startswith(start + spelled(sum_after(0, start)) + b"\n"):
+    if not at or not content.startswith(FORMS) or not content.startswith(start + spelled(sum_after(0, start)) + b"\n"):
         return None
     return Numbered(number, content.count(b"\n", 0, at) + 1)
 

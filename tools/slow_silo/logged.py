@@ -5,10 +5,11 @@ from __future__ import annotations
 import os
 from typing import Callable, Iterable, NamedTuple
 
-from .answer import MAX_ANSWERED_LINES, answer_line
+from .answer import MAX_ANSWERED_LINES
 from .data import Folder
 from .lines import MAX_LINE, TooMuchInput
 from .log import Place, Words, cut_head, head_text, read_log, spelled
+from .once import answer_line
 from .silo import Setup, Silo
 
 # bytes of lines, and of texts, above which a batch takes no line more
@@ -58,7 +59,7 @@ class Log:
 def words_of(setup: Setup, sends: int) -> Words:
     """What a log says of the silo whose lines it has."""
     tenants = tuple((tenant, limits.activations, limits.mailbox) for tenant, limits in setup.tenants)
-    return Words(setup.logic.number, sends, setup.age, setup.ages, tenants)
+    return Words(setup.logic.number, sends, setup.age, setup.ages, tenants, setup.replies, setup.room, setup.operator)
 
 
 def text_of(silo: Silo, line: bytes, most: int) -> bytes:

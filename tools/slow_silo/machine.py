@@ -5,11 +5,12 @@ Each gives the replies that the step adds, or None where the step isn't possible
 
 from __future__ import annotations
 
-from typing import NamedTuple, Optional, Union
+from typing import Callable, NamedTuple, Optional, Union
 
 from . import codes
 from .kinds import CLEAR, KINDS, READ, REST, SAME, Logic, Plan, Send, is_read
 from .names import Grain
+from .room import grain_bytes, kept_bytes, send_bytes, state_bytes
 from .steps import (MAX_NUMBER, Abandon, Activate, Begin, Call, Client, Deliver, End, Load, Poke, Refuse, Reply, Status,
                     Step, Store, Sweep, Tick, fault, ok)
 from .storage import CLEARED, Failed, Row, Spent, Stale, Storage
@@ -55,6 +56,10 @@ class Entry:
         """It is ready, nothing waits, and no turn is open."""
         return self.phase == READY and not self.queue and not self.turns
 
+    def counts(self, at: Grain) -> int:
+        """How many bytes of what its tenant keeps (room.py)."""
+        return state_bytes(at, self.state if self.phase == READY else KINDS[at.kind].empty)
+
 
 class Refused(Exception):
     """A request is refused, with this code and the names in its text."""
@@ -90,13 +95,15 @@ class Machine:
     """
 
     def __init__(self, tenant: str, limits: Optional[Limits], age: int, ages: dict[str, int], logic: Logic,
-                 storage: Storage):
+                 storage: Storage, room: Optional[int] = None):
         self.tenant = tenant
         self.limits = limits
         self.age = age
         self.ages = ages
         self.logic = logic
         self.storage = storage
+        # how many bytes the tenant may keep, if that is bounded
+        self.room = room
         self.clock = 0
         self.count = 0
         self.entries: dict[Grain, Entry] = {}
@@ -118,6 +125,7 @@ class Machine:
         asker = Client(step.caller, step.id)
         try:
             self.check(step.grain)
+            self.check_bytes(self.more_by_poke, step.grain, step.state)
             if step.failed:
                 raise Failed
             return [ok(asker, version_value(self.storage.poke(step.grain, step.state)))]
@@ -159,6 +167,7 @@ class Machine:
         try:
             self.check(grain)
             self.check_room(grain)
+            self.check_bytes(self.more_by_request, grain)
         except Refused as refusal:
             return [fault(sender, refusal.code, *refusal.names)]
         self.count += 1
@@ -209,6 +218,36 @@ class Machine:
         entry.state = row.content if has_content else KINDS[grain.kind].empty
         entry.version = None if row is None else row.version
 
+    # ---- what the tenant keeps (room.py)
+
+    def would_pass(self, more: Callable[..., int], *given: object) -> bool:
+        """What makes the tenant keep so much more makes it keep more than it may."""
+        if self.room is None:
+            return False
+        held = {at: entry.counts(at) for at, entry in self.entries.items()}
+        added = more(*given)
+        return added > 0 and kept_bytes(self.storage.rows, held, self.sends) + added > self.room
+
+    def check_bytes(self, more: Callable[..., int], *given: object) -> None:
+        if self.would_pass(more, *given):
+            raise Refused(codes.NO_ROOM, self.tenant)
+
+    def more(self, grain: Grain, row: Optional[Row], held: Optional[int]) -> int:
+        """How much more the grain counts with this row, and with an entry that counts so much."""
+        entry = self.entries.get(grain)
+        return grain_bytes(grain, row, held) - grain_bytes(grain, self.storage.rows.get(grain), entry and entry.counts(grain))
+
+    def more_by_request(self, grain: Grain) -> int:
+        return self.more(grain, self.storage.rows.get(grain), self.entries.get(grain, Entry()).counts(grain))
+
+    def more_by_poke(self, grain: Grain, state: object) -> int:
+        entry = self.entries.get(grain)
+        return self.more(grain, Row(1, state), entry and entry.counts(grain))
+
+    def more_by_end(self, grain: Grain, plan: Plan) -> int:
+        sent = sum(send_bytes(grain, one) for one in plan.sends)
+        return self.more(grain, self.storage.rows.get(grain), state_bytes(grain, plan.state)) + sent
+
     # ---- turns
 
     def begin(self, step: Begin) -> Perhaps:
@@ -256,6 +295,9 @@ class Machine:
         if found is None or found[2].asks is not None:
             return None
         entry, request, plan = found
+        if plan.code is None and self.would_pass(self.more_by_end, step.grain, plan):
+            self.close(step.grain, entry, request)
+            return refused(request, codes.NO_ROOM, self.tenant)
         self.close(step.grain, entry, request, plan.keep)
         entry.state = plan.state
         self.sends.extend((step.grain, sent) for sent in plan.sends)

@@ -10,13 +10,15 @@ from .answer import DEFAULT_SENDS, MAX_SENDS, answer_lines, is_asked
 from .audit import audit
 from .checkpoint import CheckpointRefused, read_checkpoint
 from .data import Folder, InUse, MemoryFolder, NotRead, NotWritten
-from .journal import (MAX_ACTIVATIONS, MAX_AGE, MAX_AGES, MAX_MAILBOX, MAX_TENANTS, RefusedAt, journal_of,
-                      journal_text, migrate_journal, read_journal)
+from .journal import (IS_NUMBER, MAX_ACTIVATIONS, MAX_AGE, MAX_AGES, MAX_MAILBOX, MAX_TENANTS, RefusedAt, journal_of, journal_text,
+                      migrate_journal, read_journal)
 from .listed import listed_rows
 from .machine import Limits
 from .names import is_word
+from .receipts import MAX_REPLIES
 from .serve import answers_of, lanes_of, replies_to_grains, serve
 from .silo import DEFAULT_AGE, Setup, Silo
+from .steps import MAX_NUMBER
 
 MAX_WORKERS = 64
 DEFAULT_WORKERS = 4
@@ -54,6 +56,11 @@ def is_number(text: str, most: int) -> bool:
 def is_decimal(text: str, most: int) -> bool:
     """Digits of a number from 1 on, without a sign or a leading zero."""
     return not text.startswith("0") and is_number(text, most)
+
+
+def is_bound(text: str, most: int) -> bool:
+    """Digits of a number from 1 on, which may be great, without a sign or a leading zero."""
+    return IS_NUMBER(text) is not None and 1 <= int(text) <= most
 
 
 def is_option_number(text: str, most: int) -> bool:
@@ -105,16 +112,18 @@ IS_WORKERS = ("--workers", lambda text: is_option_number(text, MAX_WORKERS))
 IS_PATH = ("--journal", lambda text: True)
 IS_DATA = ("--data", lambda text: True)
 IS_SENDS = ("--sends", is_sends)
+IS_REPLIES = ("--replies", lambda text: is_decimal(text, MAX_REPLIES))
+IS_BYTES = ("--bytes", lambda text: is_bound(text, MAX_NUMBER))
 OPTIONS = {
     "steps": dict([IS_AGE, IS_AGES]),
-    "answer": dict([IS_AGE, IS_AGES, IS_SENDS, IS_PATH, IS_DATA]),
+    "answer": dict([IS_AGE, IS_AGES, IS_SENDS, IS_PATH, IS_DATA, IS_REPLIES, IS_BYTES]),
     "serve": dict([IS_AGE, IS_AGES, IS_WORKERS, IS_PATH]),
     "audit": {},
     "migrate": {},
     "rows": {},
 }
-# what takes no value; the program has no checkpoints and no `rows` yet
-FLAGS = {"answer": ["--no-sync", "--checkpoints"], "serve": ["--explain-lines", "--summary"]}
+# what takes no value; the program has no checkpoints, replies, bytes or operator, and no `rows` yet
+FLAGS = {"answer": ["--no-sync", "--checkpoints", "--operator"], "serve": ["--explain-lines", "--summary"]}
 
 
 def split_words(words: list[str], options: dict, flags: list[str]) -> tuple[dict, list[str]]:
@@ -155,7 +164,8 @@ def setup_of(given: dict, words: list[str]) -> Setup:
         raise Ended(BAD_WORDS)
     tenants = tenants_of(words)
     ages = ages_of(given["--ages"]) if "--ages" in given else ()
-    return Setup(tenants, int(given.get("--age", DEFAULT_AGE)), ages)
+    room, replies = (int(given[name]) if name in given else None for name in ("--bytes", "--replies"))
+    return Setup(tenants, int(given.get("--age", DEFAULT_AGE)), ages, room=room, replies=replies, operator="--operator" in given)
 
 
 def setup_of_words(words: list[str]) -> Setup:
@@ -165,7 +175,7 @@ def setup_of_words(words: list[str]) -> Setup:
 
 def are_together(given: dict) -> bool:
     """Whether these options of `answer` may stand beside one another."""
-    of_data = {"--no-sync", "--checkpoints"} & set(given)
+    of_data = {"--no-sync", "--checkpoints", "--replies", "--bytes", "--operator"} & set(given)
     return "--journal" not in given if "--data" in given else not of_data
 
 

@@ -7,6 +7,7 @@ from typing import Iterable, NamedTuple, Optional
 from .kinds import NEWEST_KINDS, Logic
 from .machine import LOADING, WAITING, Limits, Machine
 from .names import Caller, Grain
+from .receipts import Receipts
 from .steps import (Activate, Begin, Client, Deliver, Load, Poke, Reply, Step, Store, Tick, owner)
 from .storage import Fuse, Row, Storage
 
@@ -25,6 +26,22 @@ class Setup(NamedTuple):
     # which of the storage's calls fail, by their numbers from 1
     failing: tuple[int, ...] = ()
     logic: Logic = NEWEST_KINDS
+    # how many bytes a tenant may keep, if that is bounded
+    room: Optional[int] = None
+    # how many replies of requests that act once are kept of a tenant; none if there are no such requests
+    replies: Optional[int] = None
+    # whether tenants come and go by lines
+    operator: bool = False
+
+
+class Has(NamedTuple):
+    """How much is kept of a tenant."""
+
+    requests: int
+    sends: int
+    activations: int
+    rows: int
+    callers: int
 
 
 class Silo:
@@ -40,13 +57,15 @@ class Silo:
         self.replies: list[Reply] = []
         # the steps that were done; those whose storage call failed say so
         self.journal: list[Step] = []
+        # beside the machines: what is kept for those who ask once
+        self.receipts = Receipts(setup.replies)
 
     def machine(self, tenant: str) -> Machine:
         """The tenant's machine. One that was never asked for is as it was at the start, but for the clock."""
         if tenant not in self.machines:
             rows = [(grain, row) for grain, row in self.setup.rows if grain.tenant == tenant]
             setup, storage = self.setup, Storage(rows, self.fuse)
-            made = Machine(tenant, self.limits.get(tenant), setup.age, dict(setup.ages), setup.logic, storage)
+            made = Machine(tenant, self.limits.get(tenant), setup.age, dict(setup.ages), setup.logic, storage, setup.room)
             made.clock = self.clock
             self.machines[tenant] = made
         return self.machines[tenant]
@@ -85,6 +104,10 @@ class Silo:
 
     def rows(self) -> list[tuple[Grain, Row]]:
         return sorted((grain, row) for machine in self.machines.values() for grain, row in machine.storage.rows.items())
+
+    def has(self, tenant: str) -> Has:
+        machine = self.machine(tenant)
+        return Has(machine.count, len(machine.sends), len(machine.entries), len(machine.storage.rows), len(self.receipts.of(tenant)))
 
     def rows_of(self, tenant: str) -> list[tuple[Grain, Row]]:
         return [(grain, row) for grain, row in self.rows() if grain.tenant == tenant]

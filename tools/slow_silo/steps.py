@@ -119,5 +119,5 @@ def ok(to: Union[Client, Grain], value: object) -> Reply:
     return Reply(to, value)
 
 
-def fault(to: Union[Client, Grain], code: int, *names: str) -> Reply:
+def fault(to: Union[Client, Grain], code: int, *names: object) -> Reply:
     return Reply(to, code=code, text=codes.text_of(code, *names))

@@ -13,7 +13,6 @@ from typing import Callable, Iterable, Iterator, Sequence
 from unittest import mock
 
 from . import logged
-from .answer import answer_line
 from .checkpoint import checkpoint_of, checkpoint_text, read_checkpoint, sum_of
 from .checkpoint_rows import TEXT
 from .data import DiskFolder, MemoryFolder
@@ -21,6 +20,7 @@ from .data_rows import ADD, FIRST, GET, MORE, NUMBER, SECOND, TWO, WORDS, log_of
 from .lines import ReaderFailed
 from .log import Words, cut_head, head_with, spelled, sum_after
 from .logged import text_of, words_of
+from .once import answer_line
 from .program import Run, run_program, setup_of_words
 from .row import Row
 from .short_lines import A, BLUE, RELAY, SHEET, SWEEP, call, no, ok, poke, seen, status, text, tick
@@ -243,7 +243,7 @@ ACCOUNT, UP, ROW = "account red 4 1\n", "up counter/red:a 1 5 0 0300000000000000
 SEND = "send relay/red:r counter/red:a 020000000367657400\n"
 FAULTY = [
     faulty_text("of no byte", 1, ""),
-    faulty("of another form", 1, "silo-checkpoint 1", "silo-checkpoint 2"),
+    faulty("of another form", 1, "silo-checkpoint 1", "silo-checkpoint 3"),
     faulty("that follows no number", 2, "0123456789abcdef", "0123456789abcdeF"),
     faulty("with a digit too few", 2, "0123456789abcdef", "0123456789abcde"),
     faulty("a zero before a number", 3, "sends 1000", "sends 01000"),

@@ -9,6 +9,10 @@ and then a new log, without a batch, in the place of the old log. So whatever a 
 - a checkpoint and the log that it replaced: all of the log is in the checkpoint.
 
 Any other log is refused. The program has no checkpoints yet: it takes each folder as one that has none.
+
+A start has the tenants of its words. With `--operator` these count in a folder without a checkpoint alone: one with a checkpoint has its own
+table, which lines of its operator may have changed, and no start takes back what they did. Callers keep their numbers and receipts under all
+words.
 """
 
 from __future__ import annotations
@@ -76,6 +80,7 @@ class SwitchedLog(Log):
 
     def switch(self) -> None:
         """Has all that the log leads to in a checkpoint, and begins a log that goes on from there."""
+        self.words = words_of(self.silo.setup, self.words.sends)
         text = checkpoint_text(checkpoint_of(self.silo, self.number, self.words.sends))
         self.folder.place(text)
         self.number = sum_of(text)
@@ -124,9 +129,8 @@ def look_at_kinds(checkpoint: Checkpoint, setup: Setup) -> None:
 
 def look_at_tenants(silo: Silo, setup: Setup) -> None:
     """The words leave out no tenant of which something is kept. The least that they leave out is told."""
-    for tenant, machine in sorted(silo.machines.items()):
-        has_something = machine.count or machine.sends or machine.entries or machine.storage.rows
-        if has_something and tenant not in dict(setup.tenants):
+    for tenant in sorted(silo.machines):
+        if any(silo.has(tenant)) and tenant not in dict(setup.tenants):
             raise HasTenant(tenant)
 
 
@@ -139,6 +143,8 @@ def start(folder: Folder, setup: Setup, sends: int, most: int) -> tuple[Silo, Sw
     text = folder.checkpoint()
     found = found_without(content, setup, sends) if text is None else found_with(text, content)
     again = None if found.log is None else answer_again(found.silo, found.log, found.words)
+    if setup.operator:
+        setup = setup._replace(tenants=found.silo.setup.tenants)
     look_at_tenants(found.silo, setup)
     is_left = found.words != words_of(setup, sends) or again is not None and again.lines > 0
     if again is None:
