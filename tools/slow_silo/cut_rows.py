@@ -348,9 +348,9 @@ def each_changed_byte_of_a_checkpoint_has_it_refused() -> bool:
     return all(is_refused(files, line, changed) for line, changed in damaged(text))
 
 
-def is_refused(files: dict, line: int, text: bytes) -> bool:
+def is_refused(files: dict, line: int, text: bytes, words: Sequence[str] = STORY_WORDS) -> bool:
     before = {**files, "d/checkpoint": text}
-    run = run_program(STORY_WORDS, lines_text(STORY[24:]), before)
+    run = run_program(list(words), lines_text(STORY[24:]), before)
     said = re.fullmatch(rb"silo: checkpoint line (\d+) is refused\n", run.errors or b"")
     return said is not None and line <= int(said[1]) <= text.count(b"\n") + 1 and (run.out, run.status, run.files) == (b"", 4, before)
 

@@ -9,6 +9,7 @@ from .checkpoint_rows import CHECKPOINT_ROWS
 from .cut_rows import CUT_CALLS
 from .data_rows import DATA_CALLS
 from .log_rows import LOG_ROWS
+from .once_rows import ONCE, ONCE_CALLS
 from .program import run_program
 from .row import Row
 from .rows import ROWS
@@ -50,8 +51,8 @@ def call_difference(check) -> Optional[str]:
 def main() -> int:
     """Prints each row that differs, and last 'N passed, M failed'."""
     passed = failed = 0
-    checks = [(row.name, difference, row) for row in (*ROWS, *SWITCHED)]
-    calls = (*CALL_ROWS, *LOG_ROWS, *CHECKPOINT_ROWS, *DATA_CALLS, *SWITCH_CALLS, *CUT_CALLS)
+    checks = [(row.name, difference, row) for row in (*ROWS, *SWITCHED, *ONCE)]
+    calls = (*CALL_ROWS, *LOG_ROWS, *CHECKPOINT_ROWS, *DATA_CALLS, *SWITCH_CALLS, *CUT_CALLS, *ONCE_CALLS)
     checks += [(check.__name__.replace("_", " "), call_difference, check) for check in calls]
     for name, run, row in checks:
         what = run(row)
