@@ -3,8 +3,8 @@
 Lists have their lengths before them. The rows, the ages and the tenants' limits stand in a journal of no step. The last line has the sum
 of all bytes before it.
 
-There are two forms of it. The second also tells how many receipts and bytes a tenant may have, whether tenants come and go by lines, and each
-account's callers, with their greatest numbers and their receipts. A checkpoint is written in the first if it says nothing of these.
+There are two forms of it. The second also tells how many receipts and bytes a tenant may have, whether tenants come and go by lines, and
+each account's callers, with their greatest numbers and their receipts. A checkpoint is written in the first if it says nothing of these.
 
 A text that is none is refused at its first line that fits no form in its place, behind the lines before it, counted from 1; what comes
 after the last LF is no line yet. So a length that is too great or too small is refused where a line of the list is missing or is one too
@@ -23,8 +23,8 @@ from typing import NamedTuple, Optional
 
 from . import codes
 from .journal import (LAST_FORM, LAST_VERSION, MAX_NUMBER, MAX_TENANTS, Reader, RefusedAt, caller, fits, grain, journal_of, journal_text,
-                      message, number, read_age, read_journal, read_kind, read_kinds, read_reply, read_row, read_tenant, reply_fields, split,
-                      state)
+                      message, number, read_age, read_journal, read_kind, read_kinds, read_reply, read_row, read_tenant, reply_fields,
+                      split, state)
 from .kinds import Logic, Send
 from .log import DIGITS, more_lines, spelled as sum_spelled, sum_after
 from .machine import READY, Entry

@@ -163,11 +163,12 @@ class Machine:
         if entry is None and len(self.entries) >= self.limits.activations:
             raise Refused(codes.NO_ACTIVATION, self.tenant)
 
-    def request(self, sender: Union[Client, Grain], grain: Grain, method: str, args: object) -> Replies:
+    def request(self, sender: Union[Client, Grain], grain: Grain, method: str, args: object, freed: int = 0) -> Replies:
+        """So many bytes were freed for it (room.py)."""
         try:
             self.check(grain)
             self.check_room(grain)
-            self.check_bytes(self.more_by_request, grain)
+            self.check_bytes(self.more_by_request, grain, freed=freed)
         except Refused as refusal:
             return [fault(sender, refusal.code, *refusal.names)]
         self.count += 1
@@ -183,7 +184,7 @@ class Machine:
         for place, (source, sent) in enumerate(self.sends):
             if source == step.grain:
                 del self.sends[place]
-                return self.request(source, sent.target, sent.method, sent.args)
+                return self.request(source, sent.target, sent.method, sent.args, send_bytes(source, sent))
         return None
 
     # ---- how an entry becomes ready
@@ -220,16 +221,16 @@ class Machine:
 
     # ---- what the tenant keeps (room.py)
 
-    def would_pass(self, more: Callable[..., int], *given: object) -> bool:
-        """What makes the tenant keep so much more makes it keep more than it may."""
+    def would_pass(self, more: Callable[..., int], *given: object, freed: int = 0) -> bool:
+        """What makes the tenant keep so much more, where so much was freed before, makes it keep more than it may."""
         if self.room is None:
             return False
         held = {at: entry.counts(at) for at, entry in self.entries.items()}
         added = more(*given)
-        return added > 0 and kept_bytes(self.storage.rows, held, self.sends) + added > self.room
+        return added > freed and kept_bytes(self.storage.rows, held, self.sends) + added > self.room
 
-    def check_bytes(self, more: Callable[..., int], *given: object) -> None:
-        if self.would_pass(more, *given):
+    def check_bytes(self, more: Callable[..., int], *given: object, freed: int = 0) -> None:
+        if self.would_pass(more, *given, freed=freed):
             raise Refused(codes.NO_ROOM, self.tenant)
 
     def more(self, grain: Grain, row: Optional[Row], held: Optional[int]) -> int:

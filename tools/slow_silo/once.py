@@ -4,8 +4,8 @@ lines (tenants.py).
     {"op":"call",..,"once":B,"seen":N}      and a poke likewise; `once` may be left out, and is then false, and so may `seen`
     {"op":"last","from":F,"id":I}           the greatest number of the caller that acted once, null if there is none
 
-Which of these forms are known is said by the silo's words: the first two with `--replies`, those of the operator with `--operator`. A line of
-any other form is no request. What has none of these members is answered as ever, to the byte.
+Which of these forms are known is said by the silo's words: the first two with `--replies`, those of the operator with `--operator`. A
+line of any other form is no request. What has none of these members is answered as ever, to the byte.
 """
 
 from __future__ import annotations

@@ -69,7 +69,8 @@ NUMBERS = [
     asked("the first may be 0, and the last is the greatest there is", once(add(0, 1) + add(2**63 - 1, 1) + add(0, 1) + add(7, 1)),
           ok(0, 1) + ok(2**63 - 1, 2) + ok(0, 1) + was(7)),
     asked("a poke acts once, too", once(poke(1, A, 5) + poke(1, A, 6) + poke(2, A, 7)) + GET, ok(1, "1") * 2 + ok(2, "2") + ok(3, 7)),
-    asked("what a fault was told is told again, whatever changed", once(add(1, 1) + call(2, SHEET, "list") + add(3, 1, at=B) + add(3, 1, at=A))
+    asked("what a fault was told is told again, whatever changed",
+          once(add(1, 1) + call(2, SHEET, "list") + add(3, 1, at=B) + add(3, 1, at=A))
           + tick(900_000) + SWEEP + once(add(3, 1, at=B) + add(4, 1, at=B)),
           ok(1, 1) + ok(2, []) + no(3, 41, "tenant red has no free activation") * 3 + ok(4, 1)),
     asked("so is that of a line whose value or grain is refused",
@@ -156,7 +157,8 @@ BOUNDS = [
 # ---- forms
 
 FORMS = [
-    asked("members that are none", once(ADD, once=1) + once(ADD, once="true") + once(ADD, once=None) + once(ADD, seen=-1) + once(ADD, seen=True)
+    asked("members that are none",
+          once(ADD, once=1) + once(ADD, once="true") + once(ADD, once=None) + once(ADD, seen=-1) + once(ADD, seen=True)
           + once(ADD, seen=None) + once(ADD, seen=1.5) + once(ADD, seen=2**63) + once(ADD, more=1) + last(1),
           NOT_A_REQUEST * 9 + ok(1, None)),
     asked("no other line has them", once(status(1) + last(1) + tick(1) + SWEEP) + saw(status(1) + last(1), 1) + line(op="last", from_=RED)
@@ -212,7 +214,8 @@ tenant red 2 4
 of 0123456789abcdef 74c5898311a950a7
 """
 # what leads to this checkpoint, and what it is told
-ONE_LINES = once(ADD) + once(MORE, seen=1) + once(call(4, A, "fly")) + once(call(9, "what", "get", None, OTHER)) + saw(call(1, "x", "", None, OTHER), 9)
+ONE_LINES = (once(ADD) + once(MORE, seen=1) + once(call(4, A, "fly")) + once(call(9, "what", "get", None, OTHER))
+             + saw(call(1, "x", "", None, OTHER), 9))
 ONE_TOLD = ok(1, 3) + ok(2, 7) + no(4, 60, "method is unknown") + no(9, 20, "grain name is not well formed", OTHER) + no(
     1, 20, "grain name is not well formed", OTHER)
 AGAIN = once(ADD + MORE + add(3, 1) + call(4, A, "get") + add(8, 1, OTHER)) + last(5) + last(5, OTHER)
@@ -263,8 +266,8 @@ def forged(name: str, number: int, old: str, new: str) -> Row:
     """A checkpoint with a part that was replaced is refused at this line; its sum is right."""
     body = FORGED_TEXT[:FORGED_TEXT.rindex("sum ")]
     assert body.count(old) == 1
-    return refused(f"a forged checkpoint: {name}", {"d/checkpoint": summed(body.replace(old, new)), "d/log": log_of(words=words_said(TWO_WORDS))},
-                   4, f"checkpoint line {number} is refused", TWO_WORDS)
+    before = {"d/checkpoint": summed(body.replace(old, new)), "d/log": log_of(words=words_said(TWO_WORDS))}
+    return refused(f"a forged checkpoint: {name}", before, 4, f"checkpoint line {number} is refused", TWO_WORDS)
 
 
 # lines 1 to 8; red's account, 9 to 13; blue's, 14 to 16
@@ -324,11 +327,13 @@ def a_caller_has_receipts_of_a_megabyte_at_most() -> bool:
 
 
 STORY_WORDS = ["answer", "--data", "d", "--checkpoints", "--sends", "1", "--replies", "4", "--operator", "red:4:4", "blue:2:2"]
-STORY = (once(JOINS + SENT[2:]) + once(SENT[2:]) + once(ADD) + once(add(4, 1), seen=2) + ["", "hello"] + once(add(1, 5, BLUE, "counter/blue:a") * 2)
-         + line(op="tenant", tenant="green", activations=1, mailbox=1) + once(add(1, 5, "green/c", "counter/green:a")) + last(2, "green/c")
+STORY = (once(JOINS + SENT[2:]) + once(SENT[2:]) + once(ADD) + once(add(4, 1), seen=2) + ["", "hello"]
+         + once(add(1, 5, BLUE, "counter/blue:a") * 2) + line(op="tenant", tenant="green", activations=1, mailbox=1)
+         + once(add(1, 5, "green/c", "counter/green:a")) + last(2, "green/c")
          + tick(2) + once(add(5, 1, OTHER) + add(5, 1, OTHER)) + once(poke(7, A, 40), seen=4) + line(op="drop", tenant="green")
          + line(op="tenant", tenant="grey", activations=1, mailbox=1) + line(op="drop", tenant="grey") + once(add(8, 1) * 2)
-         + line(op="tenant", tenant="red", activations=1, mailbox=1) + once(call(9, B, "get")) + status(3) + once(call(9, A, "get")) + last(10))
+         + line(op="tenant", tenant="red", activations=1, mailbox=1) + once(call(9, B, "get")) + status(3) + once(call(9, A, "get"))
+         + last(10))
 
 
 def each_life_with_receipts_that_ends_at_a_call() -> bool:

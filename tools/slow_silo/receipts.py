@@ -14,8 +14,9 @@ is then answered by the first of these that fits:
 - 44 with the tenant's name, if the tenant has as many receipts as it may have, or their lines have that many kB;
 - else it acts, and is the caller's greatest; what it is replied, also a fault, is its receipt.
 
-A number that was told 15, 44 or 45 didn't act, and no send is delivered behind it. A receipt is kept if there was room before it: so the last
-one may be longer than what was left. Callers of tenants that aren't known have nothing kept, and are answered as if they didn't say `once`.
+A number that was told 15, 44 or 45 didn't act, and no send is delivered behind it. A receipt is kept if there was room before it: so the
+last one may be longer than what was left. Callers of tenants that aren't known have nothing kept, and are answered as if they didn't say
+`once`.
 
 All this is of the tenant's own callers. It is a function of the tenant's lines, so a log has nothing of it, and a checkpoint has it whole.
 """

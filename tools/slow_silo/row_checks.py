@@ -14,6 +14,7 @@ from .program import run_program
 from .row import Row
 from .rows import ROWS
 from .switch_rows import SWITCHED, SWITCH_CALLS
+from .tenant_rows import TENANT_CALLS, TENANT_ROWS
 
 
 def input_of(row: Row) -> bytes:
@@ -51,8 +52,8 @@ def call_difference(check) -> Optional[str]:
 def main() -> int:
     """Prints each row that differs, and last 'N passed, M failed'."""
     passed = failed = 0
-    checks = [(row.name, difference, row) for row in (*ROWS, *SWITCHED, *ONCE)]
-    calls = (*CALL_ROWS, *LOG_ROWS, *CHECKPOINT_ROWS, *DATA_CALLS, *SWITCH_CALLS, *CUT_CALLS, *ONCE_CALLS)
+    checks = [(row.name, difference, row) for row in (*ROWS, *SWITCHED, *ONCE, *TENANT_ROWS)]
+    calls = (*CALL_ROWS, *LOG_ROWS, *CHECKPOINT_ROWS, *DATA_CALLS, *SWITCH_CALLS, *CUT_CALLS, *ONCE_CALLS, *TENANT_CALLS)
     checks += [(check.__name__.replace("_", " "), call_difference, check) for check in calls]
     for name, run, row in checks:
         what = run(row)

@@ -10,9 +10,9 @@ and then a new log, without a batch, in the place of the old log. So whatever a 
 
 Any other log is refused. The program has no checkpoints yet: it takes each folder as one that has none.
 
-A start has the tenants of its words. With `--operator` these count in a folder without a checkpoint alone: one with a checkpoint has its own
-table, which lines of its operator may have changed, and no start takes back what they did. Callers keep their numbers and receipts under all
-words.
+A start has the tenants of its words. With `--operator` these count in a folder without a checkpoint alone: one with a checkpoint has its
+own table, which lines of its operator may have changed, and no start takes back what they did. Callers keep their numbers and receipts
+under all words.
 """
 
 from __future__ import annotations

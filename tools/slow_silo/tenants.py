@@ -9,8 +9,8 @@ Each is one line with one answer, which has no `from`: the limits that T had bef
     {"error":C,"tenant":T,"text":TEXT}
 
 Of a tenant that is closed nothing may be kept, be it only that a request was counted: else 47 says how much is. So a tenant that comes
-again is as one that never was, and no number acts twice. A table that would have no tenant, or more than 1,000, is 46; closing a tenant that
-isn't known is 21. A tenant that has more than its new limits allow keeps it; what comes then is refused as ever.
+again is as one that never was, and no number acts twice. A table that would have no tenant, or more than 1,000, is 46; closing a tenant
+that isn't known is 21. A tenant that has more than its new limits allow keeps it; what comes then is refused as ever.
 
 The silo is reopened under the other table, as at a start under other words: what is kept of it stays, and nothing else changes. Who may
 write such lines is for what stands in front of the silo to decide.
