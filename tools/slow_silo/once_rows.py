@@ -233,6 +233,7 @@ def under(checkpoint: str, then: str, words: Sequence[str], lines: list, out: li
 STARTS = [
     row("at the end of the input numbers and receipts are in the checkpoint", {"d/log": ONE_LOG}, ONE_LINES, ONE_TOLD, HELD, ONE),
     row("a start goes on from them", HELD, AGAIN, AGAIN_TOLD, after(changed(ONE_POINT, of(ONE_POINT)), ONE), ONE),
+    row("the log that the checkpoint replaced is passed over", {"d/checkpoint": ONE_POINT, "d/log": LOGGED}, [], [], HELD, ONE),
     row("they come back with a log's lines", {"d/log": LOGGED}, [], [], HELD, ONE),
     row("also where there are no checkpoints", {"d/log": LOGGED}, AGAIN, AGAIN_TOLD,
         {"d/log": log_of((ONE_LINES, ONE_TOLD), (AGAIN, AGAIN_TOLD), words=words_said(ONE))}, NO_CHECKPOINT),

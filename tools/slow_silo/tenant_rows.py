@@ -57,6 +57,8 @@ COMING = [
         ['{"ok":null,"tenant":"blue"}', '{"ok":{"activations":1,"mailbox":2},"tenant":"blue"}',
          '{"ok":{"activations":3,"mailbox":4},"tenant":"blue"}', '{"error":21,"tenant":"blue","text":"tenant blue is unknown"}']),
     asked("a tenant is known from its line on", BLUE_GET + tenant("blue", 1, 1) + BLUE_GET, UNKNOWN + had("blue") + ok(1, 0, BLUE)),
+    asked("nothing is kept of what it asked before", once(BLUE_GET * 2) + tenant("blue", 1, 1) + last(2, BLUE) + once(BLUE_GET) + last(2, BLUE),
+          UNKNOWN * 2 + had("blue") + ok(2, None, BLUE) + ok(1, 0, BLUE) + ok(2, 1, BLUE)),
     asked("it has the silo's clock", tick(7) + tenant("blue", 1, 1) + status(1, BLUE), had("blue") + seen(1, 0, 7, 0, BLUE)),
     asked("until it is closed", tenant("blue", 1, 1) + status(1, BLUE) + drop("blue") + BLUE_GET,
           had("blue") + seen(1, 0, 0, 0, BLUE) + had("blue", 1, 1) + UNKNOWN),
@@ -184,6 +186,8 @@ ROOM = [
           ok(1, "1") + ok(2, True) + ok(1, None) + no(3, 57, FULL), bounded(SHEET_BYTES)),
     asked("a stored state that is shorter than its kind's empty one needs that much to be brought up",
           poke(1, A, None) + GET + poke(2, B, None), ok(1, "1") + no(3, 57, FULL) + no(2, 57, FULL), bounded(21)),
+    asked("and counts that much while it is active", poke(1, A, None) + call(2, A, "save") + poke(3, B, None),
+          ok(1, "1") + ok(2, "2") + no(3, 57, FULL), bounded(22 + 13)),
     asked("what is sent needs room until it is delivered", SENT + status(4) + call(5, RELAY, "send", {"method": "add", "args": {"by": 1}}),
           ok(1, True) + ok(2, True) + no(3, 57, FULL) + seen(4, 1, 0, 3) + no(5, 57, FULL),
           bounded(RELAY_BYTES - 1, "--sends", "0", "red:9:4")),
@@ -206,6 +210,9 @@ ROOM = [
 KEPT_WORDS = bounded(SHEET_BYTES, "--checkpoints", "red:9:4")
 NARROW = bounded(9, "--checkpoints", "red:9:4")
 KEPT_POINT = point(PUT, words=KEPT_WORDS)
+SENT_WORDS = bounded(RELAY_BYTES, "--checkpoints", "--sends", "0", "red:9:4")
+SENT_NARROW = bounded(9, "--checkpoints", "--sends", "1", "red:9:4")
+SENT_POINT = point(SENT, words=SENT_WORDS)
 NARROWED = changed(KEPT_POINT, of(KEPT_POINT), f"bytes {SHEET_BYTES}", "bytes 9")
 ROOM_STARTS = [
     row("what was no room is none again",
@@ -216,6 +223,11 @@ ROOM_STARTS = [
         ok(2, "1") + no(3, 57, FULL) + ok(4, None),
         after(changed(point(PUT + call(2, SHEET, "save") + call(4, SHEET, "list") + put(4, "x"), words=KEPT_WORDS), of(NARROWED),
                       f"bytes {SHEET_BYTES}", "bytes 9"), NARROW), NARROW),
+    row("nor is a delivery more, whatever its target needs", after(SENT_POINT, SENT_WORDS), status(4) * 2,
+        seen(4, 1, 0, 3) + seen(4, 2, 0, 4),
+        after(changed(point(SENT + status(4), words=bounded(RELAY_BYTES, "--sends", "1", "red:9:4")),
+                      of(changed(SENT_POINT, of(SENT_POINT), f"bytes {RELAY_BYTES}", "bytes 9", "sends 0", "sends 1")),
+                      f"bytes {RELAY_BYTES}", "bytes 9"), SENT_NARROW), SENT_NARROW),
     row("without the option nothing is counted", after(KEPT_POINT, KEPT_WORDS), ADD, ok(1, 3),
         after(point(PUT + ADD, of(changed(point(PUT, words=["answer", "red:9:4"]), of(KEPT_POINT))), ["answer", "red:9:4"]),
               ["answer", "red:9:4"]), ["answer", "--data", "d", "--checkpoints", "red:9:4"]),
