@@ -11,6 +11,7 @@ from slow_silo.answer import answer_line
 from slow_silo.machine import Limits
 from slow_silo.program import setup_of_words
 from slow_silo.silo import Setup, Silo
+from slow_silo.storage import CLEARED
 from slow_silo.values import spelled
 
 # the first one is always there
@@ -167,7 +168,7 @@ class Alone:
     def has_room(self) -> bool:
         """Neither the rows nor the states nor the sends of the tenant have more bytes than it may keep."""
         machine = self.silo.machine(self.tenant)
-        stored = sum(len(at.text() + "x" * len(spelled(row.content))) for at, row in machine.storage.rows.items() if repr(row.content) != "CLEARED")
+        stored = sum(len(at.text()) + len(spelled(row.content)) for at, row in machine.storage.rows.items() if row.content is not CLEARED)
         held = sum(len(at.text()) + len(spelled(entry.state)) for at, entry in machine.entries.items())
         sent = sum(len(spelled(sent.args)) for _source, sent in machine.sends)
         return self.room is None or max(stored, held) + sent <= self.room

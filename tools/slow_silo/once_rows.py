@@ -90,8 +90,9 @@ NUMBERS = [
           ok(9, 1) + ok(1, 2) + ok(1, 3) + ok(1, 2) + ok(3, 3)),
     asked("nor does what says that it doesn't", [one.replace("true", "false") for one in once(ADD + ADD)] + last(3),
           ok(1, 3) + ok(1, 6) + ok(3, None)),
-    asked("a tenant that isn't known has nothing kept", once(add(1, 1, BLUE) * 2) + last(2, BLUE),
-          (no(1, 21, "tenant blue is unknown", BLUE) * 2 + no(2, 21, "tenant blue is unknown", BLUE))),
+    asked("a tenant that isn't known has nothing kept", once(add(1, 1, BLUE) * 2 + add(0, 1, BLUE)) + last(2, BLUE),
+          no(1, 21, "tenant blue is unknown", BLUE) * 2 + no(0, 21, "tenant blue is unknown", BLUE)
+          + no(2, 21, "tenant blue is unknown", BLUE)),
 ]
 
 # ---- replies that were seen
