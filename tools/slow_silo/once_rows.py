@@ -251,6 +251,8 @@ STARTS = [
     row("a log of before is answered again as it was", after(point(ADD), WITHOUT) | {"d/log": log_of((once(ADD), NOT_A_REQUEST),
                                                                                                     number=of(point(ADD)))},
         once(ADD), ok(1, 6), after(point(ADD + once(ADD), of(changed(point(ADD, words=ONE), of(point(ADD)))), ONE), ONE), ONE),
+    Row("the rows of such a folder", ["rows", "d"], [], ['{"active":"counter/red:a","version":null,"last":0,"until":0,"state":7}'],
+        files={"d/checkpoint": ONE_POINT}),
     refused("a log of other replies", {"d/log": ONE_LOG}, 2, "the data have other words", few(9)),
     refused("a log of before, without a checkpoint", {"d/log": log_of(FIRST)}, 2, "the data have other words", NO_CHECKPOINT),
     refused("a log of the second form without the option", {"d/log": ONE_LOG}, 4, "log line 1 is refused", WITHOUT),
