@@ -2,17 +2,19 @@
 
 from __future__ import annotations
 
+import copy
 import json
 from random import Random
 from typing import NamedTuple, Optional
 
 from slow_silo import codes, receipts
 from slow_silo.answer import answer_line
+from slow_silo.kinds import KINDS
 from slow_silo.machine import Limits
 from slow_silo.program import setup_of_words
 from slow_silo.silo import Setup, Silo
 from slow_silo.storage import CLEARED
-from slow_silo.values import spelled
+from slow_silo.values import spelled, spelled_message
 
 # the first one is always there
 TENANTS = ["rock", "red", "blue", "green"]
@@ -107,6 +109,8 @@ class Alone:
         # what each number of each caller was told when it acted, and up to which one that was seen
         self.told: dict[str, dict[int, str]] = {}
         self.seen: dict[str, int] = {}
+        # of the bytes that it kept
+        self.wrong: Optional[str] = None
 
     def line(self, said: dict) -> list[str]:
         """What is written for a line of the tenant or of nobody."""
@@ -119,7 +123,7 @@ class Alone:
         if said["op"] == "last":
             plain["op"] = "status"
         if not is_known or not {"once", "seen"} & set(said):
-            return answer_line(self.silo, text_of(plain).encode(), self.sends)
+            return self.answer(plain)
         return self.asked(said, plain)
 
     def asked(self, said: dict, plain: dict) -> list[str]:
@@ -130,7 +134,7 @@ class Alone:
         code, whose = self.refusal(caller, number) if said.get("once") else (None, "")
         if code is not None:
             return [text_sorted({"from": caller, "id": number, "error": code, "text": codes.text_of(code, whose)})]
-        texts = answer_line(self.silo, text_of(plain).encode(), self.sends)
+        texts = self.answer(plain)
         if said.get("once"):
             assert number not in self.told.setdefault(caller, {})
             self.told[caller][number] = texts[0]
@@ -165,13 +169,33 @@ class Alone:
         del self.silo.limits[self.tenant]
         return limits
 
-    def has_room(self) -> bool:
-        """Neither the rows nor the states nor the sends of the tenant have more bytes than it may keep."""
-        machine = self.silo.machine(self.tenant)
-        stored = sum(len(at.text()) + len(spelled(row.content)) for at, row in machine.storage.rows.items() if row.content is not CLEARED)
-        held = sum(len(at.text()) + len(spelled(entry.state)) for at, entry in machine.entries.items())
-        sent = sum(len(spelled(sent.args)) for _source, sent in machine.sends)
-        return self.room is None or max(stored, held) + sent <= self.room
+    def answer(self, plain: dict) -> list[str]:
+        """What the silo answers; and what is wrong with the bytes that the tenant then keeps."""
+        aside = copy.deepcopy(self.silo) if self.room is not None and self.sends == 0 else None
+        texts = answer_line(self.silo, text_of(plain).encode(), self.sends)
+        if self.room is not None and kept_bytes(self.silo, self.tenant) > self.room:
+            self.wrong = f"{self.tenant} keeps {kept_bytes(self.silo, self.tenant)} bytes of {self.room} behind {plain}"
+        # a grain that rests goes again
+        if aside is not None and codes_of(texts) == [codes.NO_ROOM] and plain.get("method") != "rest":
+            aside.machine(self.tenant).room = None
+            answer_line(aside, text_of(plain).encode(), self.sends)
+            if kept_bytes(aside, self.tenant) <= self.room:
+                self.wrong = f"{self.tenant} would keep {kept_bytes(aside, self.tenant)} bytes of {self.room} behind {plain}"
+        return texts
+
+
+def kept_bytes(silo: Silo, tenant: str) -> int:
+    """What the tenant keeps where no request waits (slow_silo/room.py)."""
+    machine = silo.machine(tenant)
+    held = {at: [entry.state, KINDS[at.kind].empty] for at, entry in machine.entries.items()}
+    for at, row in machine.storage.rows.items():
+        held[at] = held.get(at, []) + ([] if row.content is CLEARED else [row.content])
+    sends = [at.text() + sent.target.text() + "x" * len(spelled_message(sent.method, sent.args)) for at, sent in machine.sends]
+    return len("".join(sends)) + sum(len(at.text()) + max((len(spelled(value)) for value in values), default=0) for at, values in held.items())
+
+
+def codes_of(texts: list[str]) -> list[Optional[int]]:
+    return [json.loads(text).get("error") for text in texts]
 
 
 def text_sorted(members: dict) -> str:

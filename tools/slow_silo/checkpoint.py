@@ -11,8 +11,7 @@ after the last LF is no line yet. So a length that is too great or too small is 
 many. The accounts are those of the journal's tenants, in their order: a `tenant` line of another is refused, and a missing one at the line
 in its place. A send's source is a grain of the account's tenant, and a caller is one of it; callers ascend, and a caller's receipts do, by
 their numbers, up to its greatest. A receipt is a reply, as a journal has it, and not a line: so whatever a forged one says, it is told to
-its caller under its number. A wrong sum is refused at the last line, and any byte behind that line at
-the next one.
+its caller under its number. A wrong sum is refused at the last line, and any byte behind that line at the next one.
 """
 
 from __future__ import annotations

@@ -14,11 +14,12 @@ is then answered by the first of these that fits:
 - 44 with the tenant's name, if the tenant has as many receipts as it may have, or their lines have that many kB;
 - else it acts, and is the caller's greatest; what it is replied, also a fault, is its receipt.
 
-A number that was told 15, 44 or 45 didn't act, and no send is delivered behind it. A receipt is kept if there was room before it: so the
-last one may be longer than what was left. Callers of tenants that aren't known have nothing kept, and are answered as if they didn't say
-`once`.
+Nothing is done for a number that doesn't act, and no send is delivered behind it; 44 and 45 leave it free. A receipt is kept if there was
+room before it: so the last one may be longer than what was left. Callers of tenants that aren't known have nothing kept, and are answered
+as if they didn't say `once`.
 
-All this is of the tenant's own callers. It is a function of the tenant's lines, so a log has nothing of it, and a checkpoint has it whole.
+All this is of the tenant's own callers, and a function of its lines and of those that are nobody's: so a log says nothing of it, and a
+checkpoint has it whole.
 """
 
 from __future__ import annotations

@@ -10,7 +10,7 @@ Three things can make this more: a request to a grain that has no entry, the end
 it makes it more, and more than the tenant may keep. A request and a poke then change nothing else; the turn is closed, its state stays, and
 nothing is sent, as if the storage had failed. A load, a save, a clear, a reload and a sweep never make it more: what a turn may hold may
 be saved, and what is stored may be read. Nor does a delivery to any of the three kinds: what is sent counts more than its target brought
-up. A tenant that has more than it may keep, because the bound was wider, may do all that makes it no more.
+up. So no tenant comes to have more than it may keep; one that has, because the bound was wider, may do all that makes it no more.
 
 57 comes after all other reasons to refuse a request or a poke, but before the storage is asked; and a turn that has a code has that.
 
