@@ -18,7 +18,6 @@ from slow_silo.values import spelled, spelled_message
 
 # the first one is always there
 TENANTS = ["rock", "red", "blue", "green"]
-ROOMS = [None, None, 60, 150, 400]
 
 
 def text_of(said: dict) -> str:
@@ -88,7 +87,7 @@ class Making:
 
 
 def make_story(random: Random) -> Story:
-    sends, room = random.choice([0, 1, 5]), random.choice(ROOMS)
+    sends, room = random.choice([0, 0, 1, 5]), random.choice([None, random.randrange(30, 250)])
     words = ["answer", "--data", "d", *random.choice([[], ["--checkpoints"], ["--checkpoints"]]), "--sends", str(sends), "--age", "3",
              "--replies", str(random.choice([2, 4, 9])), *([] if room is None else ["--bytes", str(room)]), "--operator"]
     words += [f"{tenant}:{random.randrange(1, 5)}:2" for tenant in TENANTS[:random.randrange(1, 5)]]
@@ -191,7 +190,8 @@ def kept_bytes(silo: Silo, tenant: str) -> int:
     for at, row in machine.storage.rows.items():
         held[at] = held.get(at, []) + ([] if row.content is CLEARED else [row.content])
     sends = [at.text() + sent.target.text() + "x" * len(spelled_message(sent.method, sent.args)) for at, sent in machine.sends]
-    return len("".join(sends)) + sum(len(at.text()) + max((len(spelled(value)) for value in values), default=0) for at, values in held.items())
+    grains = [len(at.text()) + max((len(spelled(value)) for value in values), default=0) for at, values in held.items()]
+    return len("".join(sends)) + sum(grains)
 
 
 def codes_of(texts: list[str]) -> list[Optional[int]]:
