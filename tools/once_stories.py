@@ -73,15 +73,15 @@ class Making:
 
     def asked(self, tenant: str) -> dict:
         random = self.random
-        counter, sheet, relay = (f"{kind}/{tenant}:{random.choice('ab')}" for kind in ("counter", "sheet", "relay"))
-        if random.random() < 0.1:
-            return {"op": "poke", "grain": random.choice([counter, sheet, "what"]), "state": random.choice([1, None, 1.5, {"k": "xx"}])}
+        counter, sheet, relay = (f"{kind}/{tenant}:{random.choice('abc')}" for kind in ("counter", "sheet", "relay"))
+        if random.random() < 0.2:
+            return {"op": "poke", "grain": random.choice([counter, sheet, relay, "what"]), "state": random.choice([1, None, 1.5, {"k": "xx"}])}
         send = {"method": "add", "args": {"by": 1}}
         grain, method, args = random.choice([
             (counter, "add", {"by": random.randrange(4)}), (counter, "add", {"by": 1}), (counter, "get", None), (counter, "save", None),
             (counter, "rest", None), (sheet, "put", {"name": "k", "value": "x" * random.randrange(60)}), (sheet, "get", {"name": "k"}),
-            (sheet, "save", None), (sheet, "clear", None), (relay, "join", {"grain": counter}), (relay, "join", {"grain": relay}),
-            (relay, "send", send), (relay, "send", {"method": "send", "args": send}), (f"clock/{tenant}:a", "get", None),
+            (sheet, "save", None), (sheet, "clear", None), (f"relay/{tenant}:a", "join", {"grain": counter}),
+            (relay, "join", {"grain": relay}), (f"relay/{tenant}:a", "send", send), (relay, "send", {"method": "send", "args": send}), (f"clock/{tenant}:a", "get", None),
             ("counter/blue:a", "get", None), (counter, "fly", None), (counter, "add", {"by": 1.5}), ("what", "get", None)])
         return {"op": "call", "grain": grain, "method": method, "args": args}
 
