@@ -21,10 +21,10 @@ use Rattle.checkpoint_text.proofs.Back.{fields_of_account, fields_of_grain, fiel
 abbrev AreAscii : List ℕ → Type 0
 AreAscii xs = list_all is_ascii_byte xs ≡ true
 
-ascii_byte : (b : ℕ) → is_text_byte b ≡ true → is_ascii_byte b ≡ true
+pub ascii_byte : (b : ℕ) → is_text_byte b ≡ true → is_ascii_byte b ≡ true
 ascii_byte b is = grind (arith, is)
 
-both : (xs ys : List ℕ) → AreAscii xs → AreAscii ys → AreAscii (xs ++ ys)
+pub both : (xs ys : List ℕ) → AreAscii xs → AreAscii ys → AreAscii (xs ++ ys)
 both xs ys = pass_append is_ascii_byte xs ys
 
 line : (word fields : List ℕ) → IsField word → list_all is_text_byte fields ≡ true → AreAscii (named word fields)
@@ -32,7 +32,7 @@ unfolding named
 line word fields is plain =
     both (word ␣ fields) (10 ∷ []) (pass_weaker is_text_byte is_ascii_byte ascii_byte (word ␣ fields) (plain_more word fields is plain)) refl
 
-each : {A : Type 0} (text : A → List ℕ) (Is : A → Type 0) → ((x : A) → Is x → AreAscii (text x)) → (xs : List A) → All Is xs → AreAscii (flat_map text xs)
+pub each : {A : Type 0} (text : A → List ℕ) (Is : A → Type 0) → ((x : A) → Is x → AreAscii (text x)) → (xs : List A) → All Is xs → AreAscii (flat_map text xs)
 each text Is one [] all = refl
 each text Is one (x ∷ xs) all = both (text x) (flat_map text xs) (one x (All-head Is x xs all)) (each text Is one xs (All-tail Is x xs all))
 

@@ -1,6 +1,6 @@
 -- What a reader answers, by what it read.
-use Rattle.std.proofs.Common.{◌≡◌, ℕ, true, false, true≢false, List, Some, Err, ap, subst, sym, ◌∙◌}
-use Rattle.std.specs.Prelude.{IsErrAnd, Result}
+use Rattle.std.proofs.Common.{◌≡◌, ℕ, Bool, List, Some, Err, ap, subst, sym, ◌∙◌}
+use Rattle.std.specs.Prelude.{◌↔◌, IsErrAnd, IsTrue, Result}
 use Rattle.std.specs.Str.{IsUtf8}
 use Rattle.std.proofs.lemmas.Option.{none-some, same_Some}
 use Rattle.std.proofs.lemmas.Result.{err_from_is_err_and}
@@ -37,13 +37,21 @@ fails_too bytes r why is none =
 same_one : (bytes : List ℕ) (d : Checkpoint) → body_at (body_of bytes) ≡ Some d → (c : Checkpoint) → IsCheckpoint c → bytes ≡ checkpoint_text c → d ≡ c
 same_one bytes d read c keeps same = same_Some d c (sym read ∙ found bytes c keeps same)
 
--- it is, if its text is the same
-pub fits : (bytes text : List ℕ) (d : Checkpoint) → body_at (body_of bytes) ≡ Some d → text ≡ checkpoint_text d → same_text text bytes ≡ true
-    → (bytes ≡ checkpoint_text d) × ((c : Checkpoint) → IsCheckpoint c → bytes ≡ checkpoint_text c → d ≡ c)
-fits bytes text d read is same = (sym ((same_text_decides text bytes).0 same) ∙ is, same_one bytes d read)
+-- whether that is the bytes' text, by a comparison
+pub text_of : (bytes text : List ℕ) (d : Checkpoint) (b : Bool) → IsCheckpoint d → text ≡ checkpoint_text d → b ≡ same_text text bytes
+    → IsTrue b ↔ (IsCheckpoint d × (bytes ≡ checkpoint_text d))
+text_of bytes text d b may is test = (
+  λ same. (may, sym ((same_text_decides text bytes).0 (sym test ∙ same)) ∙ is),
+  λ both. test ∙ (same_text_decides text bytes).1 (is ∙ sym both.1),
+)
 
--- another text than that of what was read is the text of nothing
-pub other_text : (bytes text : List ℕ) (d : Checkpoint) → body_at (body_of bytes) ≡ Some d → text ≡ checkpoint_text d → same_text text bytes ≡ false → (c : Checkpoint) → IsCheckpoint c → bytes ≡ checkpoint_text c → ⊥
-other_text bytes text d read is differs c keeps same =
+-- it is, if it may stand in a checkpoint and the bytes are its text
+pub fits : (bytes : List ℕ) (d : Checkpoint) → body_at (body_of bytes) ≡ Some d → IsCheckpoint d × (bytes ≡ checkpoint_text d)
+    → IsCheckpoint d × (bytes ≡ checkpoint_text d) × ((c : Checkpoint) → IsCheckpoint c → bytes ≡ checkpoint_text c → d ≡ c)
+fits bytes d read is = (is.0, is.1, same_one bytes d read)
+
+-- else the bytes are the text of nothing
+pub fits_none : (bytes : List ℕ) (d : Checkpoint) → body_at (body_of bytes) ≡ Some d → (IsCheckpoint d × (bytes ≡ checkpoint_text d) → ⊥) → (c : Checkpoint) → IsCheckpoint c → bytes ≡ checkpoint_text c → ⊥
+fits_none bytes d read is_not c keeps same =
     let one : d ≡ c = same_one bytes d read c keeps same in
-    true≢false (sym ((same_text_decides text bytes).1 (is ∙ ap checkpoint_text one ∙ sym same)) ∙ differs)
+    is_not (subst IsCheckpoint (sym one) keeps, same ∙ ap checkpoint_text (sym one))

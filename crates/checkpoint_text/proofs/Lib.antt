@@ -5,4 +5,5 @@ pub mod Ascii
 pub mod Put
 pub mod Loops
 pub mod Whole
+pub mod Standing
 pub mod Fitting

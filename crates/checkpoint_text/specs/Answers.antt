@@ -34,11 +34,11 @@ checkpoint_in c = checkpoint_by c.follows.now c.sends c.kept c.journal.now
 abbrev pub parts_in : CheckpointParts → Checkpoint
 parts_in p = checkpoint_by p.follows.now p.sends p.kept.now p.journal.now
 
--- The bytes are the text of the checkpoint that is answered, and of no other that may stand in one; that they are none is answered only
--- if they are.
+-- What is answered may stand in a checkpoint, and the bytes are its text, and that of no other; that they are none is answered only if
+-- they are.
 abbrev pub ReadsCheckpoint : List ℕ → Result Read CheckpointFault → Type 0
 ReadsCheckpoint bytes (Ok p) =
-    (bytes ≡ checkpoint_text (checkpoint_in p))
+    IsCheckpoint (checkpoint_in p) × (bytes ≡ checkpoint_text (checkpoint_in p))
     × ((c : Checkpoint) → IsCheckpoint c → bytes ≡ checkpoint_text c → checkpoint_in p ≡ c)
 ReadsCheckpoint bytes (Err faults.NoCheckpoint) = (c : Checkpoint) → IsCheckpoint c → bytes ≡ checkpoint_text c → ⊥
 ReadsCheckpoint bytes (Err faults.Memory) = Unit {0}

@@ -1,5 +1,5 @@
 -- What may stand in a checkpoint.
-use Rattle.std.specs.Prelude.{◌≡◌, ℕ, ◌<◌, ◌^◌, Bool, List, All, IfSome, IsTrue, length, nat_lt, true}
+use Rattle.std.specs.Prelude.{◌≡◌, ℕ, ◌<◌, ◌^◌, ◌&&◌, Bool, List, All, IfSome, IsTrue, length, nat_lt, true}
 use Rattle.std.specs.List.{list_all}
 use Rattle.grain_id.specs.Names.{Grain, is_grain}
 use Rattle.grain_id.specs.Words.{is_word, is_name_byte}
@@ -32,3 +32,12 @@ pub record IsCheckpoint (c : Checkpoint) : Type 0 where
   pub accounts : All IsAccount c.accounts
   pub grains : All IsGrain c.grains
   pub journal : list_all is_ascii_byte c.journal ≡ true
+
+-- the tenant's name is well formed
+abbrev pub has_word : List ℕ × KeptAccount → Bool
+has_word a = is_word a.0
+
+-- whether that is so of it which no type keeps: what it follows is of visible ASCII, the names of tenants are well formed, and the journal
+-- is of ASCII
+abbrev pub is_spelled : Checkpoint → Bool
+is_spelled c = list_all is_name_byte c.follows && list_all has_word c.accounts && list_all is_ascii_byte c.journal

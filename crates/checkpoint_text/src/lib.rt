@@ -6,6 +6,7 @@
 #![tactic(auto)]
 
 mod checkpoint;
+mod checks;
 mod fault;
 mod field_reader;
 pub mod laws;
@@ -14,6 +15,7 @@ mod reader;
 mod writer;
 
 pub use checkpoint::{Checkpoint, CheckpointParts};
+pub use checks::may_stand;
 pub use fault::CheckpointFault;
 pub use reader::read_checkpoint;
 pub use writer::checkpoint_of;

@@ -1,17 +1,20 @@
 //! Checkpoints, read.
 
-ghost use Rattle.std.specs.Prelude.{◌≡◌, ◌++◌, ◌∷◌, [], IfSome, None, OnOk, codes, map, string_bytes};
+ghost use Rattle.std.specs.Prelude.{◌≡◌, ◌↔◌, ◌++◌, ◌∷◌, [], IfOk, IfSome, IsTrue, None, OnOk, codes, map, string_bytes};
 ghost use Rattle.std.specs.Str.{IsUtf8};
 ghost use Rattle.journal_text.specs.inside.Answers.{Reads};
 ghost use Rattle.journal_text.specs.inside.Candidates.{◌⊗◌, wide_of, word_of};
 ghost use Rattle.grain_id.specs.Names.{same_text};
 ghost use Rattle.tenant_accounts.specs.Parts.{kept_in};
 ghost use Rattle.tenant_accounts.specs.Sends.{send_of};
-ghost use Rattle.checkpoint_text.specs.Answers.{ReadsCheckpoint, checkpoint_in, grain_in};
+ghost use Rattle.checkpoint_text.specs.Answers.{ReadsCheckpoint, checkpoint_in, grain_in, parts_in};
+ghost use Rattle.checkpoint_text.specs.Rules.{IsCheckpoint};
+ghost use Rattle.checkpoint_text.specs.Text.{checkpoint_text};
 ghost use Rattle.checkpoint_text.specs.inside.Reading.{account_at, body_at, body_of, counted_at, grain_at, grain_of_fields};
 ghost use Rattle.checkpoint_text.specs.inside.Reading.{head_at, lists_at, send_at, send_of_fields, times};
 
-use crate::checkpoint::Checkpoint;
+use crate::checkpoint::{Checkpoint, CheckpointParts};
+use crate::checks::may_stand;
 use crate::fault::CheckpointFault;
 use crate::field_reader::{cut_named, cut_number, parse_moment, parse_name, parse_version};
 use crate::writer::checkpoint_of;
@@ -271,6 +274,21 @@ fn is_same(one: &[u8], other: &[u8]) -> bool
     one == other
 }
 
+/// Whether the parts may stand in a checkpoint, and the bytes are its text.
+fn is_text_of(
+    alloc: Global,
+    parts: &CheckpointParts<'_>,
+    bytes: &[u8],
+) -> Result<bool, AllocError>
+    ensures { IfOk result (λ is. IsTrue is ↔ (IsCheckpoint (parts_in parts.now) × (bytes.now ≡ checkpoint_text (parts_in parts.now)))) }
+{
+    if !may_stand(parts) {
+        return Ok(false);
+    }
+    let text = checkpoint_of(alloc, parts)?;
+    Ok(is_same(text.as_slice(), bytes))
+}
+
 /// The checkpoint whose text the bytes are. It takes their length twice while it reads, for what was read is written
 /// again and compared.
 ///
@@ -285,8 +303,7 @@ pub fn read_checkpoint(alloc: Global, bytes: &[u8]) -> Result<Checkpoint<'_>, Ch
     };
     let mut names = NameCache::new(alloc);
     let checkpoint = read_body(alloc, &mut names, body)?;
-    let text = checkpoint_of(alloc, &checkpoint.parts())?;
-    if is_same(text.as_slice(), bytes) {
+    if is_text_of(alloc, &checkpoint.parts(), bytes)? {
         Ok(checkpoint)
     } else {
         drop(checkpoint);

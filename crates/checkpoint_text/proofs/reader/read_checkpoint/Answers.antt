@@ -1,8 +1,8 @@
-use Rattle.std.proofs.Common.{ap, sym, ◌∙◌}
+use Rattle.std.proofs.Common.{ap, subst, sym, ◌∙◌}
+use Rattle.std.specs.Prelude.{◌↔◌, IsTrue}
 use Rattle.checkpoint_text.specs.Answers.{checkpoint_in}
-use Rattle.checkpoint_text.specs.Text.{checkpoint_text}
 use Rattle.checkpoint_text.specs.inside.Reading.{body_at}
-use Rattle.checkpoint_text.proofs.Fitting.{fails_too, fits, other_text, utf8_body}
+use Rattle.checkpoint_text.proofs.Fitting.{fails_too, fits, fits_none, utf8_body}
 use Rattle.checkpoint_text.proofs.reader.read_checkpoint.Goals as goal
 
 pub returns-in_default : goal.returns-in_default
@@ -12,10 +12,10 @@ pub returns-in_err-checkpoint : goal.returns-in_err-checkpoint
 returns-in_err-checkpoint c =
     fails_too c.args.bytes.now c.from_residual.result _ c.from_residual.ensures.1 (rw c.in-Some.ensures.some at c.in_err-checkpoint.ensures)
 
-pub returns-then-is_same : goal.returns-then-is_same
-returns-then-is_same c =
-    fits c.args.bytes.now c.as_slice.result.now (checkpoint_in c.in_ok-checkpoint.checkpoint) (ap body_at (sym c.in-Some.ensures.some) ∙ c.in_ok-checkpoint.ensures) (c.as_slice.ensures.value ∙ c.in_ok-text.ensures ∙ ap checkpoint_text c.parts.ensures) (sym c.is_same.ensures ∙ c.if-is_same.true)
+pub returns-then-is_text_of : goal.returns-then-is_text_of
+returns-then-is_text_of c =
+    fits c.args.bytes.now (checkpoint_in c.in_ok-checkpoint.checkpoint) (ap body_at (sym c.in-Some.ensures.some) ∙ c.in_ok-checkpoint.ensures) _
 
 pub returns : goal.returns
 returns c k is same =
-    other_text c.args.bytes.now c.as_slice.result.now (checkpoint_in c.in_ok-checkpoint.checkpoint) (ap body_at (sym c.in-Some.ensures.some) ∙ c.in_ok-checkpoint.ensures) (c.as_slice.ensures.value ∙ c.in_ok-text.ensures ∙ ap checkpoint_text c.parts.ensures) (sym c.is_same.ensures ∙ c.if-is_same.false) k is same
+    fits_none c.args.bytes.now (checkpoint_in c.in_ok-checkpoint.checkpoint) (ap body_at (sym c.in-Some.ensures.some) ∙ c.in_ok-checkpoint.ensures) _ k is same
