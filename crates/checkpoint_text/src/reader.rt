@@ -303,7 +303,8 @@ pub fn read_checkpoint(alloc: Global, bytes: &[u8]) -> Result<Checkpoint<'_>, Ch
     };
     let mut names = NameCache::new(alloc);
     let checkpoint = read_body(alloc, &mut names, body)?;
-    if is_text_of(alloc, &checkpoint.parts(), bytes)? {
+    let stands = is_text_of(alloc, &checkpoint.parts(), bytes)?;
+    if stands {
         Ok(checkpoint)
     } else {
         drop(checkpoint);
