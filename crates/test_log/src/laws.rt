@@ -13,6 +13,7 @@ fn the_laws_are_stated() {
     log_text::laws::one_text();
     log_text::laws::spells_plain();
     checkpoint_text::laws::one_text();
+    silo_checkpoint::laws::one_saved();
     log_host::laws::crash_leaves();
     log_host::laws::at_each_moment();
     log_host::laws::starts_settled();

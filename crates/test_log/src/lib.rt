@@ -12,4 +12,6 @@ mod restarts;
 #[cfg(test)]
 mod resumed;
 #[cfg(test)]
+mod saved;
+#[cfg(test)]
 mod texts;

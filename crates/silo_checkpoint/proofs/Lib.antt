@@ -1,0 +1,4 @@
+mod Listed
+mod Journals
+mod Spelled
+mod OneSaved

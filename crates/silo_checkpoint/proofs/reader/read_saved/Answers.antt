@@ -1,0 +1,9 @@
+use Rattle.checkpoint_text.specs.Answers.{checkpoint_in}
+use Rattle.silo_checkpoint.proofs.Journals.{told_none}
+use Rattle.silo_checkpoint.proofs.reader.read_saved.Goals as goal
+
+pub returns-in_err-told : goal.returns-in_err-told
+returns-in_err-told c = record {
+  read =
+      told_none c.args.bytes.now c.as_bytes.result.now (checkpoint_in c.in_ok-checkpoint.checkpoint) c.from_residual-in_err-told.result _ c.in_ok-checkpoint.ensures.2 c.from_residual-in_err-told.ensures.1 c.as_bytes.ensures.value c.in_err-told.ensures;
+}
