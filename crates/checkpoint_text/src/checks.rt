@@ -141,7 +141,9 @@ fn all_ascii(bytes: &[u8]) -> bool
 fn have_words(accounts: &[AccountParts]) -> bool
     ensures { result ≡ list_all (λ account. has_word (kept_in account)) accounts.now }
 {
-    accounts.iter().all(|account| is_word(account.name.as_str()))
+    accounts
+        .iter()
+        .all(|account| is_word(account.name.as_str()))
 }
 
 fn is_spelled(parts: &CheckpointParts<'_>) -> bool

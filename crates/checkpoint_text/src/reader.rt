@@ -275,11 +275,7 @@ fn is_same(one: &[u8], other: &[u8]) -> bool
 }
 
 /// Whether the parts may stand in a checkpoint, and the bytes are its text.
-fn is_text_of(
-    alloc: Global,
-    parts: &CheckpointParts<'_>,
-    bytes: &[u8],
-) -> Result<bool, AllocError>
+fn is_text_of(alloc: Global, parts: &CheckpointParts<'_>, bytes: &[u8]) -> Result<bool, AllocError>
     ensures { IfOk result (λ is. IsTrue is ↔ (IsCheckpoint (parts_in parts.now) × (bytes.now ≡ checkpoint_text (parts_in parts.now)))) }
 {
     if !may_stand(parts) {

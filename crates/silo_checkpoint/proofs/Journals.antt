@@ -1,5 +1,5 @@
 -- The journal in a checkpoint, as it is read and as it is written.
-use Rattle.std.proofs.Common.{◌≡◌, ◌≤◌, ℕ, true, List, [], ◌∷◌, ◌++◌, length, map, ap, refl, subst, sym, ◌∙◌}
+use Rattle.std.proofs.Common.{◌≡◌, ◌≤◌, ℕ, List, [], ◌∷◌, ◌++◌, length, map, ap, refl, subst, sym, ◌∙◌}
 use Rattle.std.specs.Prelude.{All, Err, IsErrAnd, Result}
 use Rattle.std.specs.FinMap.{entries}
 use Rattle.std.proofs.lemmas.Result.{err_from_is_err_and}
@@ -10,7 +10,7 @@ use Rattle.tenant_gate.specs.Age.{IsAge}
 use Rattle.idle_collector.specs.Ages.{IsTable as AreAges}
 use Rattle.journal_text.specs.FirstFault.{IsFirstFault}
 use Rattle.journal_text.specs.JournalAnswers.{IsJournalText}
-use Rattle.journal_text.specs.Rules.{IsInRange, IsKinds, IsLine, IsTable, KeepsRulesIn}
+use Rattle.journal_text.specs.Rules.{IsInRange, IsKinds, IsLine, IsTable}
 unfoldable use Rattle.journal_text.specs.Text.{journal_lines}
 use Rattle.journal_text.specs.Text.{History, body, row_line, start_lines}
 use Rattle.journal_text.specs.declared.form.Form.{Form}

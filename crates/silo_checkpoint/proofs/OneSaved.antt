@@ -1,6 +1,6 @@
 -- A checkpoint says one thing.
 use Rattle.std.proofs.Common.{◌≡◌, ℕ, List, ap, subst, sym, ◌∙◌}
-use Rattle.silo_model.specs.Opening.{Kept, Setup}
+use Rattle.silo_model.specs.Opening.{Setup}
 use Rattle.journal_text.specs.JournalAnswers.{IsJournalText}
 use Rattle.journal_text.specs.Text.{History}
 use Rattle.journal_text.proofs.OneText.{one_text_of}

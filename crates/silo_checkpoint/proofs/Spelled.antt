@@ -1,6 +1,6 @@
 -- What no type keeps of a checkpoint's parts is so, if another checkpoint says the same.
 use Rattle.std.proofs.Common.{◌≡◌, ◌&&◌, ℕ, Bool, true, false, cond, true≢false, Option, Some, List, [], ◌∷◌, ◌++◌, ap, refl, subst, sym, ◌∙◌}
-use Rattle.std.specs.Prelude.{All, is_some}
+use Rattle.std.specs.Prelude.{is_some}
 use Rattle.std.specs.Cmp.{first_so, second_so}
 use Rattle.std.specs.FinMap.{find, from_entries, get, get-from_entries}
 use Rattle.std.specs.List.{list_all}
@@ -14,7 +14,7 @@ use Rattle.silo_model.specs.Opening.{Kept}
 use Rattle.journal_text.specs.JournalAnswers.{IsJournalText}
 use Rattle.journal_text.specs.RecordedFault.{is_text_byte}
 use Rattle.journal_text.specs.Rules.{IsLine}
-use Rattle.journal_text.specs.Text.{History, journal_lines, line_text, lines_text}
+use Rattle.journal_text.specs.Text.{History, journal_lines, line_text}
 use Rattle.journal_text.specs.declared.form.Form.{Form}
 use Rattle.journal_text.specs.declared.line.Line.{Line}
 use Rattle.journal_text.proofs.Cuts.{pass_weaker}
@@ -61,8 +61,8 @@ each_word (a ∷ accounts) holds =
 same_words : (accounts others : Accounts) → from_entries {R = text_cmp} accounts ≡ from_entries others → list_all has_word others ≡ true → list_all has_word accounts ≡ true
 same_words accounts others same all =
     each_word accounts (λ name is.
-      known name others all
-      (ap is_some (sym (get-from_entries text_cmp_total others name) ∙ ap (λ m. get m name) (sym same) ∙ get-from_entries text_cmp_total accounts name) ∙ is))
+    known name others all
+    (ap is_some (sym (get-from_entries text_cmp_total others name) ∙ ap (λ m. get m name) (sym same) ∙ get-from_entries text_cmp_total accounts name) ∙ is))
 
 -- ---- a journal is of ASCII
 

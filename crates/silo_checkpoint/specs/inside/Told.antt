@@ -1,7 +1,7 @@
 -- What the journal in a checkpoint says.
 use Rattle.std.specs.Prelude.{◌≡◌, ◌≤◌, ℕ, All, List, [], Result, Ok, Err}
-use Rattle.std.specs.FinMap.{FinMap, entries, from_entries}
-use Rattle.grain_id.specs.Names.{Grain, grain_cmp}
+use Rattle.std.specs.FinMap.{entries, from_entries}
+use Rattle.grain_id.specs.Names.{Grain}
 use Rattle.grain_storage.specs.Rows.{Rows}
 use Rattle.grain_storage.specs.declared.row.Row.{Row}
 use Rattle.journal_text.specs.JournalAnswers.{IsJournalText}

@@ -1,5 +1,5 @@
-use Rattle.std.proofs.Common.{◌<◌, ◌^◌, ℕ, List, arith, map, subst, sym, ◌∙◌}
-use Rattle.std.specs.Prelude.{All, length}
+use Rattle.std.proofs.Common.{◌<◌, ◌^◌, ℕ, List, arith, map, subst}
+use Rattle.std.specs.Prelude.{All}
 use Rattle.std.proofs.lemmas.List.{length-map}
 use Rattle.tenant_accounts.specs.Parts.{kept_in}
 use Rattle.checkpoint_text.specs.Answers.{grain_in}

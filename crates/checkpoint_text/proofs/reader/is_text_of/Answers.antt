@@ -1,4 +1,4 @@
-use Rattle.std.proofs.Common.{sym, ◌∙◌}
+use Rattle.std.proofs.Common.{◌∙◌}
 use Rattle.checkpoint_text.specs.Answers.{parts_in}
 use Rattle.checkpoint_text.proofs.Fitting.{text_of}
 use Rattle.checkpoint_text.proofs.reader.is_text_of.Goals as goal

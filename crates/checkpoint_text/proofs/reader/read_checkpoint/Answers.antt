@@ -24,4 +24,4 @@ returns c =
     let bytes = c.args.bytes.now in
     fits_none bytes (checkpoint_in c.in_ok-checkpoint.checkpoint) (ap body_at (sym c.in-Some.ensures.some) ∙ c.in_ok-checkpoint.ensures)
     (λ is.
-      true≢false (sym (c.in_ok-stands.ensures.1 (subst (λ (d : Checkpoint). IsCheckpoint d × (bytes ≡ checkpoint_text d)) (sym c.parts.ensures) is)) ∙ c.if-stands.false))
+    true≢false (sym (c.in_ok-stands.ensures.1 (subst (λ (d : Checkpoint). IsCheckpoint d × (bytes ≡ checkpoint_text d)) (sym c.parts.ensures) is)) ∙ c.if-stands.false))
