@@ -1,5 +1,7 @@
 //! What a checkpoint says, read.
 
+ghost use Rattle.std.specs.Prelude.{IfOk};
+ghost use Rattle.grain_storage.specs.Memory.{AreVersioned, IsAscending};
 ghost use Rattle.silo_checkpoint.specs.Answers.{ReadsSaved};
 
 use crate::saved::Saved;
@@ -14,6 +16,9 @@ use std::alloc::Global;
 /// `NoCheckpoint` if they are the text of none, `Memory` if memory is refused.
 pub fn read_saved(alloc: Global, bytes: &[u8]) -> Result<Saved<'_>, CheckpointFault>
     ensures read { ReadsSaved bytes.now result }
+
+    // A storage takes its rows.
+    ensures rows { IfOk result (λ saved. IsAscending saved.rows.items × AreVersioned saved.rows.items) }
 {
     let checkpoint = read_checkpoint(alloc, bytes)?;
     let told = read_told(alloc, checkpoint.journal.as_bytes())?;
