@@ -17,7 +17,7 @@ use logic_versions::newest;
 use silo_core::Silo;
 use std::alloc::{AllocError, Global};
 
-/// Whether a journal may tell that number of the logic.
+/// Whether a journal may have that number of a logic.
 fn is_kinds(kinds: u8) -> bool
     ensures { IsTrue result ↔ IsKinds kinds }
 {
