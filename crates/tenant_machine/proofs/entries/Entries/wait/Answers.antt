@@ -34,7 +34,7 @@ invariant_of-self-2 g c =
     let grain = c.args.grain.now in
     let a = c.in_ok-activation.activation in
     let entered = c.in_ok-insert.ensures.entered ∙ ap (λ k. map.insert m k a) c.in_ok-named.ensures.cases in
-    enter_marked g.L.GrainLogic.logic m grain c.args.request c.args.clock a.noted c.insert.new.self (record { first = a; is_first = c.in_ok-activation.ensures; put = entered })
+    enter_marked g.L.GrainLogic.logic m grain c.args.request c.args.clock a c.in_ok-activation.ensures a.noted c.insert.new.self entered
     (sym c.in_default.ensures.value) c.self.invariant c.requires.known c.requires.marked
 
 pub returns-clause-waits : goal.returns-clause-waits
@@ -44,7 +44,7 @@ returns-clause-waits g c =
     let a = c.in_ok-activation.activation in
     let entered = c.in_ok-insert.ensures.entered ∙ ap (λ k. map.insert m k a) c.in_ok-named.ensures.cases in
     subst (λ (old : Entries). entries_of c.insert.new.self ≡ map.insert old grain (with_request c.args.clock (request_of c.args.request) (map.get old grain))) c.self.view_is
-    (enter_shows g.L.GrainLogic.logic m grain c.args.request c.args.clock a.noted c.insert.new.self (record { first = a; is_first = c.in_ok-activation.ensures; put = entered }) (sym c.in_default.ensures.value))
+    (enter_shows g.L.GrainLogic.logic m grain c.args.request c.args.clock a c.in_ok-activation.ensures a.noted c.insert.new.self entered (sym c.in_default.ensures.value))
 
 pub invariant_of-self-in_err-insert : goal.invariant_of-self-in_err-insert
 invariant_of-self-in_err-insert g c = subst (λ (m : FinMap grain_cmp Activation). AllMarked g.L.GrainLogic.logic m) (sym c.in_err-insert.ensures.unchanged) c.self.invariant
