@@ -1,5 +1,6 @@
 -- What a log in memory noted, as acts, and which of its calls fails.
 use Rattle.std.specs.Prelude.{◌-◌, ◌==◌, ℕ, Bool, List, Vec, map, option_map}
+use Rattle.std.specs.declared.alloc.Global.{Global}
 use Rattle.log_host.specs.declared.memory.Did.{Did}
 use Rattle.log_host.specs.declared.memory.Did.TheVariants.{Wrote, Synced, Told}
 use Rattle.log_host.specs.declared.memory.Fuse.{Fuse}
@@ -15,7 +16,7 @@ act_of (Told bytes) = told bytes.items
 abbrev pub acts_of : List Did → List Act
 acts_of dids = map act_of dids
 
-abbrev pub bytes_in : Vec ℕ → List ℕ
+abbrev pub bytes_in : Vec ℕ Global → List ℕ
 bytes_in bytes = bytes.items
 
 abbrev pub replaced_of : OldLog → Replaced
