@@ -259,6 +259,7 @@ module _ (logic : Logic) (n : ℕ) where
         → Commits mid new during after place asked texts next
         → (w : Whole) (first : ℕ) (h : Held) (acts : List Act) → start ≡ Some acts → GoesOn logic n w first begun h old.whole
         → GoesFrom logic n w begun.name first h here.whole acts new
+    unfolding going_committed
     going_goes keeps here has after next new c w first h acts is on =
         let g = going_committed count from left old now before during asked texts begun place start mid p after [] [] next new c refl refl in
         let s = g.keeps w first h acts is on in
