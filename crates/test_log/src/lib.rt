@@ -10,8 +10,6 @@ mod laws;
 #[cfg(test)]
 mod restarts;
 #[cfg(test)]
-mod resumed;
-#[cfg(test)]
 mod saved;
 #[cfg(test)]
 mod texts;
