@@ -1,10 +1,31 @@
-use Rattle.std.proofs.Common.{◌≡◌, OnOk, subst, true}
-use Rattle.silo_model.specs.Opening.{Setup}
-use Rattle.command_parts.specs.Setups.{started, version_of}
-use Rattle.data_command.specs.Data.{CutsLog, log_claims}
 use Rattle.data_command.proofs.answering.answer_data.Goals as goal
 
-pub returns-clause-cut : goal.returns-clause-cut
-returns-clause-cut g c =
-    subst (λ (s : Setup). OnOk c.answer_on-done.result (c.args.folder.sync ≡ true → CutsLog (started (version_of g.L.GrainLogic.logic c.args.opening.start.kinds) s)
-    c.args.opening.sends (log_claims g.F.LogHost.begun g.F.LogHost.acts g.F.LogHost.failed c.args.files.now c.answer_on-done.new.files))) c.in-Ok-dropping_silo.ensures.setup c.answer_on-done.ensures.cut
+pub returns-in-Err-clause-fault : goal.returns-in-Err-clause-fault
+returns-in-Err-clause-fault g c = c.zzz
+
+pub returns-in-Err-ready_silo-clause-fault : goal.returns-in-Err-ready_silo-clause-fault
+returns-in-Err-ready_silo-clause-fault g c = c.zzz
+
+pub answer_on-done-requires-clause-ready : goal.answer_on-done-requires-clause-ready
+answer_on-done-requires-clause-ready g c = c.zzz
+
+pub answer_on-done-requires-clause-opened : goal.answer_on-done-requires-clause-opened
+answer_on-done-requires-clause-opened g c = c.zzz
+
+pub answer_on-done-requires-clause-words : goal.answer_on-done-requires-clause-words
+answer_on-done-requires-clause-words g c = c.zzz
+
+pub answer_on-done-requires-clause-found : goal.answer_on-done-requires-clause-found
+answer_on-done-requires-clause-found g c = c.zzz
+
+pub returns-clause-answered : goal.returns-clause-answered
+returns-clause-answered g c = c.zzz
+
+pub returns-clause-has : goal.returns-clause-has
+returns-clause-has g c = c.zzz
+
+pub returns-clause-fault : goal.returns-clause-fault
+returns-clause-fault g c = c.zzz
+
+pub returns-clause-lasts : goal.returns-clause-lasts
+returns-clause-lasts g c = c.zzz
