@@ -166,6 +166,12 @@ class Story:
             return f"there is a checkpoint of {found.point} lines, and it told {life.out[-200:]!r} last"
         return None
 
+    def fault_of_all(self, left: Data) -> Optional[str]:
+        """What is wrong with the data behind all lines: there is a checkpoint of them, and a log without a batch."""
+        found = self.leads(left)
+        is_ended = found.point == len(self.lines) and left.log == head_with(self.said, found.number)
+        return None if is_ended else f"no checkpoint of all lines took the place of the log: {left!r:.300}"
+
     def fault_of_start(self, before: Data, start: Life) -> Optional[str]:
         """What is wrong with a start from data of the story's lines, that was asked the looks."""
         found = self.leads(before)
