@@ -81,8 +81,10 @@ class Log:
         """Has all that the log leads to in a checkpoint, and begins a log that goes on from there. Nothing is done if the log's number
         can't stand in a checkpoint, or would be the new one's, too."""
         follows = self.number.decode("latin-1")
-        text = checkpoint_text(checkpoint_of(self.silo, follows, self.words.sends)) if IS_VISIBLE(follows) else b""
-        number = spelled(sum_of(text)) if text else self.number
+        if not IS_VISIBLE(follows):
+            return
+        text = checkpoint_text(checkpoint_of(self.silo, follows, self.words.sends))
+        number = spelled(sum_of(text))
         if number == self.number:
             return
         self.folder.place(text)
