@@ -8,7 +8,7 @@ use Rattle.log_text.specs.Sums.{spelled}
 use Rattle.log_host.specs.Files.{Begins, MayBegin, IsAt}
 use Rattle.log_text.specs.Lines.{whole_lines}
 use Rattle.silo_checkpoint.specs.Saved.{HasText, Saved, saved_by, sum_in}
-use Rattle.silo_checkpoint.specs.contracts.laws.one_saved as law
+use Rattle.silo_checkpoint.proofs.OneSaved.{one_saved}
 use Rattle.command_parts.specs.Setups.{Start, started}
 use Rattle.data_command.specs.Data.{DataLasts, LogView, since}
 use Rattle.data_command.specs.Folder.{FolderLasts, FromFolder, OpeningFailsBy, OpensAt}

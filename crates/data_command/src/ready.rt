@@ -189,7 +189,10 @@ fn begun_anew<L: GrainLogic + Drop, F: DataFiles>(
     ensures fault { IfErr result (λ why. (why ≡ DataFault.Failed Cause.Memory)
         ⊎ ((why ≡ DataFault.Failed Cause.Write) × (F.failed files.new ≡ true))) }
 {
-    let head = new_log(alloc, files, task.words.as_slice(), task.number)?;
+    let head = match new_log(alloc, files, task.words.as_slice(), task.number) {
+        Ok(head) => head,
+        Err(why) => return Err(why),
+    };
     let LogTask { words, kinds, number, sends, sync, log } = task;
     drop(log);
     Ok(ReadySilo {
