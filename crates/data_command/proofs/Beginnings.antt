@@ -1,5 +1,5 @@
 -- With what a silo goes on, by what a folder has.
-use Rattle.std.proofs.Common.{◌≡◌, ◌∙◌, ℕ, List, [], ◌++◌, Option, None, Some, ap, inl, inr, length, refl, subst, sym}
+use Rattle.std.proofs.Common.{Err, IfOk, Ok, OnErr, Result, ◌≡◌, ◌∙◌, ℕ, List, [], ◌++◌, Option, None, Some, ap, inl, inr, length, refl, subst, sym}
 use Rattle.std.specs.Prelude.{◌⊎◌}
 use Rattle.silo_state.specs.KeptParts.{MayResume, kept_in}
 use Rattle.silo_state.specs.declared.parts.KeptParts.{KeptParts}
@@ -17,6 +17,14 @@ use Rattle.data_command.specs.declared.fault.DataFault.{DataFault}
 use Rattle.data_command.specs.declared.fault.DataFault.TheVariants as data_fault
 use Rattle.data_command.specs.inside.Ready.{HasFound, HasNumber, IsWrongLog, SaysWords}
 
+pub on_err_so : {T E : Type 0} (r : Result T E) (P Q : Type 0) → (P → Q) → OnErr r P → OnErr r Q
+on_err_so (Ok v) P Q so is = is
+on_err_so (Err e) P Q so is = so is
+
+pub if_ok_is : {T E : Type 0} (r : Result T E) (P : T → Type 0) → ((v : T) → r ≡ Ok v → P v) → IfOk r P
+if_ok_is (Ok v) P so = so v refl
+if_ok_is (Err e) P so = tt
+
 module _ (start : Start) (sends : ℕ) (old now : LogView) (log : Option (List ℕ)) where
   -- there is no checkpoint
   pub opens_new : HasFound old now log None → (own : Start) → own ≡ start → OpensAt start sends old now own
@@ -26,18 +34,24 @@ module _ (start : Start) (sends : ℕ) (old now : LogView) (log : Option (List �
     from = inl (record { is = is; none = f.point_is; left = f.left });
   }
 
+  -- what is said of the checkpoint
+  pub says_same : (saved : Saved) (words : List ℕ) → words ≡ head_words start sends → SaysWords saved start.version.number sends words → head_words (started start.version saved.setup) sends ≡ head_words start sends
+  says_same saved words worded same =
+      (λ i. head_words (started (record start.version { number = sym same.0 i }) saved.setup) (sym same.1 i)) ∙ same.2 ∙ worded
+
+  -- the bytes that were found are those of the log that is known now
+  pub found_now : (point : Option (List ℕ)) → HasFound old now log point → now.acts ≡ Some [] → now.begun ≡ log
+  found_now point f known =
+      let was = sym f.acts ∙ known in
+      (f.left was).0.1 ∙ sym (f.log_is was)
+
   module _ (point : List ℕ) (f : HasFound old now log (Some point)) where
     known : old.acts ≡ Some [] → now.acts ≡ Some []
     known e = (f.left e).0.0
 
-    -- what is said of the checkpoint
-    pub says_same : (saved : Saved) (words : List ℕ) → words ≡ head_words start sends → SaysWords saved start.version.number sends words → head_words (started start.version saved.setup) sends ≡ head_words start sends
-    says_same saved words worded same =
-        (λ i. head_words (started (record start.version { number = sym same.0 i }) saved.setup) (sym same.1.0 i)) ∙ same.1.1 ∙ worded
-
     module _ (saved : Saved) (says : HasText point saved) (words : List ℕ) (worded : words ≡ head_words start sends) (same : SaysWords saved start.version.number sends words) where
       says_own : HasText point (saved_by saved.follows start.version.number sends saved.setup)
-      says_own = subst (λ (s : Saved). HasText point s) (λ i. saved_by saved.follows (same.0 i) (same.1.0 i) saved.setup) says
+      says_own = subst (λ (s : Saved). HasText point s) (λ i. saved_by saved.follows (same.0 i) (same.1 i) saved.setup) says
 
       pub opens_own : (bytes : List ℕ) → log ≡ Some bytes → HasNumber words (spelled (sum_in point)) bytes → OpensAt start sends old now (started start.version saved.setup)
       opens_own bytes there has = record {
@@ -102,14 +116,14 @@ module _ (start : Start) (sends : ℕ) (old now : LogView) (log : Option (List �
     -- or what can't be gone on with
     pub says_too_much : (saved : Saved) → HasText point saved → (parts : KeptParts) → kept_in parts ≡ saved.setup.kept → (MayResume start.version.logic parts → ⊥)
         → OpeningFailsBy start sends (since old now) data_fault.NoCheckpoint
-    says_too_much saved says parts are not = (f.left, record { point = point; was = f.point_is; bad = inr (saved, says, parts, are, not) })
+    says_too_much saved says parts are not = (f.left, record { point = point; was = f.point_is; bad = inr (saved, says, (parts, are, not)) })
 
     pub lacks_log : log ≡ None → OpeningFailsBy start sends (since old now) data_fault.NoLog
     lacks_log none = (f.left, record { point = point; was = f.point_is; none = λ e. sym none ∙ f.log_is e })
 
     pub says_others : (saved : Saved) → HasText point saved → (words : List ℕ) → words ≡ head_words start sends → (SaysWords saved start.version.number sends words → ⊥) → OpeningFailsBy start sends (since old now) data_fault.OtherWords
     says_others saved says words worded not =
-        (f.left, inl (record { point = point; was = f.point_is; saved = saved; says = says; other = λ same. not (same.0, same.1.0, same.1.1 ∙ sym worded) }))
+        (f.left, inl (record { point = point; was = f.point_is; saved = saved; says = says; other = λ same. not (same.0, same.1, same.2 ∙ sym worded) }))
 
     -- the log has another number, or is none
     pub wrong_log : (saved : Saved) → HasText point saved → (words : List ℕ) → words ≡ head_words start sends → (bytes : List ℕ) → log ≡ Some bytes → (why : DataFault)

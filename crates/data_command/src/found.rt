@@ -35,6 +35,7 @@ pub(crate) fn open_folder<F: DataFiles>(
     path: &str,
 ) -> Result<Found, Cause>
     ensures left { LeavesLog (log_claims F.begun F.acts F.past F.failed files.old files.new) }
+    ensures acts { F.acts files.new ≡ F.acts files.old }
     ensures log { IfOk result (λ found. IsFound (log_claims F.begun F.acts F.past F.failed files.old files.new)
         (option_map (λ bytes. bytes.items) found.log)) }
     ensures point { IfOk result (λ found. IsFoundPoint (log_claims F.begun F.acts F.past F.failed files.old files.new)

@@ -133,6 +133,7 @@ fn new_log<F: DataFiles>(
     ensures begun { OnOk result (Begins (F.acts files.old) (F.acts files.new) (F.begun files.new) (head_text words.now (spelled number))) }
     ensures err { OnErr result (MayBegin (F.acts files.old) (F.begun files.old) (F.acts files.new) (F.begun files.new)
         (head_text words.now (spelled number))) }
+    ensures acts { F.acts files.new ≡ F.acts files.old }
     ensures past { F.past files.new ≡ F.past files.old }
     ensures fault { IfErr result (λ why. (why ≡ DataFault.Failed Cause.Memory)
         ⊎ ((why ≡ DataFault.Failed Cause.Write) × (F.failed files.new ≡ true))) }
@@ -185,6 +186,7 @@ fn begun_anew<L: GrainLogic + Drop, F: DataFiles>(
         (head_text task.words.items (spelled task.number))) }
     ensures err { OnErr result (MayBegin (F.acts files.old) (F.begun files.old) (F.acts files.new) (F.begun files.new)
         (head_text task.words.items (spelled task.number))) }
+    ensures acts { F.acts files.new ≡ F.acts files.old }
     ensures past { F.past files.new ≡ F.past files.old }
     ensures fault { IfErr result (λ why. (why ≡ DataFault.Failed Cause.Memory)
         ⊎ ((why ≡ DataFault.Failed Cause.Write) × (F.failed files.new ≡ true))) }
@@ -219,7 +221,9 @@ fn saved_ready<L: GrainLogic + Drop, F: DataFiles>(
 ) -> Result<ReadySilo<L>, DataFault>
     requires { words.items ≡ head_words (starting (version_of L.logic opening.start.kinds) opening.start.tenants opening.start.age
         opening.start.ages) opening.sends }
-    ensures ready { IfOk result (λ r. IsReady (version_of L.logic opening.start.kinds) opening.sends
+    ensures ready { IfOk result (λ r. (old : LogView) → HasFound old (log_view F.begun F.acts F.past F.failed files.old)
+        (option_map (λ bytes. bytes.items) log) (Some point.now)
+        → IsReady (version_of L.logic opening.start.kinds) opening.sends
         (log_view F.begun F.acts F.past F.failed files.new) r.silo.history r.silo.stopped r.silo.keeps r.task) }
     ensures opens { IfOk result (λ r. (old : LogView) → HasFound old (log_view F.begun F.acts F.past F.failed files.old)
         (option_map (λ bytes. bytes.items) log) (Some point.now)

@@ -17,6 +17,7 @@ use Rattle.data_command.specs.declared.starting.LogTask.{LogTask}
 -- Nothing was done, and these were found as the log and as the checkpoint.
 pub record HasFound (old now : LogView) (log point : Option (List ℕ)) : Type 0 where
   pub left : LeavesLog (since old now)
+  pub acts : now.acts ≡ old.acts
   pub log_is : IsFound (since old now) log
   pub point_is : IsFoundPoint (since old now) point
 
