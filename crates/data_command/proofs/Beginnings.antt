@@ -1,5 +1,5 @@
 -- With what a silo goes on, by what a folder has.
-use Rattle.std.proofs.Common.{Err, IfOk, Ok, OnErr, Result, ◌≡◌, ◌∙◌, ℕ, List, [], ◌++◌, Option, None, Some, ap, inl, inr, length, refl, subst, sym}
+use Rattle.std.proofs.Common.{Err, IfOk, OnOk, Ok, OnErr, Result, ◌≡◌, ◌∙◌, ℕ, List, [], ◌++◌, Option, None, Some, ap, inl, inr, length, refl, subst, sym}
 use Rattle.std.specs.Prelude.{◌⊎◌}
 use Rattle.silo_state.specs.KeptParts.{MayResume, kept_in}
 use Rattle.silo_state.specs.declared.parts.KeptParts.{KeptParts}
@@ -10,8 +10,10 @@ use Rattle.log_text.specs.Lines.{whole_lines}
 use Rattle.silo_checkpoint.specs.Saved.{HasText, Saved, saved_by, sum_in}
 use Rattle.silo_checkpoint.proofs.OneSaved.{one_saved}
 use Rattle.command_parts.specs.Setups.{Start, started}
-use Rattle.data_command.specs.Data.{DataLasts, LogView, since}
-use Rattle.data_command.specs.Folder.{FolderLasts, FromFolder, OpeningFailsBy, OpensAt}
+use Rattle.command_parts.specs.declared.failure.Cause.{Cause}
+use Rattle.command_parts.specs.declared.failure.Cause.TheVariants as cause
+use Rattle.data_command.specs.Data.{DataLasts, LeavesLog, LogView, since}
+use Rattle.data_command.specs.Folder.{FailsToOpen, FolderLasts, FromFolder, OpeningFailsBy, OpensAt}
 use Rattle.data_command.specs.Words.{head_words}
 use Rattle.data_command.specs.declared.fault.DataFault.{DataFault}
 use Rattle.data_command.specs.declared.fault.DataFault.TheVariants as data_fault
@@ -20,6 +22,20 @@ use Rattle.data_command.specs.inside.Ready.{HasFound, HasNumber, IsWrongLog, Say
 pub on_err_so : {T E : Type 0} (r : Result T E) (P Q : Type 0) → (P → Q) → OnErr r P → OnErr r Q
 on_err_so (Ok v) P Q so is = is
 on_err_so (Err e) P Q so is = so is
+
+pub on_ok_so : {T E : Type 0} (r : Result T E) (P Q : Type 0) → (P → Q) → OnOk r P → OnOk r Q
+on_ok_so (Ok v) P Q so is = so is
+on_ok_so (Err e) P Q so is = is
+
+-- a folder that can't be opened
+pub not_opened : (start : Start) (sends : ℕ) (old new : LogView) (why : Cause) → LeavesLog (since old new) → FailsToOpen why new.failed → OpeningFailsBy start sends (since old new) (data_fault.Failed why)
+not_opened start sends old new cause.Read left fails = fails
+not_opened start sends old new cause.Write left fails = fails
+not_opened start sends old new cause.Memory left fails = fails
+not_opened start sends old new cause.InUse left fails = left
+not_opened start sends old new cause.TooMuch left fails = fails
+not_opened start sends old new cause.NoWorker left fails = fails
+not_opened start sends old new cause.Strayed left fails = fails
 
 pub if_ok_is : {T E : Type 0} (r : Result T E) (P : T → Type 0) → ((v : T) → r ≡ Ok v → P v) → IfOk r P
 if_ok_is (Ok v) P so = so v refl
