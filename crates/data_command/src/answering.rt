@@ -77,6 +77,7 @@ fn answer_on<L: GrainLogic, F: DataFiles, R: Read, W: Write>(
     let Ok(lines) = LineReader::with_capacity(alloc, READ_BYTES) else {
         return Err(DataFault::Failed(Cause::Memory));
     };
+    let (sync, sends) = (task.sync, task.sends);
     let begun = match start_log(alloc, files, silo, task) {
         Ok(begun) => begun,
         Err(why) => {
@@ -84,9 +85,9 @@ fn answer_on<L: GrainLogic, F: DataFiles, R: Read, W: Write>(
             return Err(why);
         }
     };
-    files.set_sync(task.sync);
+    files.set_sync(sync);
     input.lines = lines;
-    let count = match answer_logged(alloc, input, output, files, begun.place, silo, task.sends) {
+    let count = match answer_logged(alloc, input, output, files, begun.place, silo, sends) {
         Ok(count) => count,
         Err(why) => return Err(DataFault::Failed(running_cause(why))),
     };
