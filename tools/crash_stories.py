@@ -9,7 +9,8 @@ from typing import NamedTuple, Optional
 
 import answer_input
 from slow_silo.answer import DEFAULT_SENDS
-from slow_silo.log import Batch, NotALog, OtherWords, Read, Words, cut_head, read_log, spelled, sum_after
+from slow_silo.checkpoint import LOOSE, Checkpoint, CheckpointRefused, checkpoint_of, checkpoint_text, read_checkpoint, sum_of
+from slow_silo.log import NotALog, OtherWords, Read, Words, cut_head, head_with, read_log, spelled
 from slow_silo.logged import text_of, words_of
 from slow_silo.program import OPTIONS, setup_of, split_words
 from slow_silo.silo import Silo
@@ -20,16 +21,36 @@ LOOKS = {"counter": "get", "sheet": "list"}
 GRAIN = re.compile(rb'"grain":"((counter|sheet)/([a-z][a-z0-9-]*):[!#-\[\]-~]+)"')
 
 
-class Life(NamedTuple):
-    """A run of the program: what it was told and told, and the log before and after it."""
+class Data(NamedTuple):
+    """What a folder has."""
 
-    # how many lines of the story the log had
+    log: Optional[bytes] = None
+    checkpoint: Optional[bytes] = None
+
+
+class Life(NamedTuple):
+    """A run of the program: what it was told and told, and the data before and after it."""
+
+    # how many lines of the story the data had
     had: int
     # what it told, on both streams, and its status
     out: bytes
     errors: bytes
     status: int
-    left: Optional[bytes]
+    left: Data
+
+
+class Leads(NamedTuple):
+    """Where data lead: behind how many of a story's lines, and on which log a start goes on; none if on a new one of a random number."""
+
+    lines: int
+    number: Optional[bytes]
+    # how many of the lines are in a checkpoint
+    point: int
+
+
+class Wrong(Exception):
+    """What is wrong with data."""
 
 
 class Story:
@@ -42,6 +63,8 @@ class Story:
         self.most = int(given.get("--sends", DEFAULT_SENDS))
         self.said: Words = words_of(self.setup, self.most)
         self.probe = self.looks()
+        # behind how many lines there may be a checkpoint: all of them were asked, unless a trial begins with one
+        self.points = {len(lines)}
         silo = Silo(self.setup)
         self.texts = [text_of(silo, line, self.most) for line in lines]
 
@@ -66,54 +89,106 @@ class Story:
     def text(self, first: int, last: int) -> bytes:
         return b"".join(self.texts[first:last])
 
-    @functools.lru_cache(maxsize=None)
-    def shown(self, count: int) -> bytes:
-        """What the looks are told behind so many lines."""
+    def silo_behind(self, count: int) -> Silo:
         silo = Silo(self.setup)
         for line in self.lines[:count]:
             text_of(silo, line, self.most)
+        return silo
+
+    @functools.lru_cache(maxsize=None)
+    def shown(self, count: int) -> bytes:
+        """What the looks are told behind so many lines."""
+        silo = self.silo_behind(count)
         return b"".join(text_of(silo, line, self.most) for line in self.probe)
+
+    @functools.lru_cache(maxsize=None)
+    def kept(self, count: int, is_looked_at: bool = False) -> Checkpoint:
+        """What a checkpoint has behind so many lines, and perhaps behind the looks then."""
+        silo = self.silo_behind(count)
+        for line in self.probe if is_looked_at else ():
+            text_of(silo, line, self.most)
+        return checkpoint_of(silo, "", self.most)
+
+    def point(self, count: int, follows: str) -> bytes:
+        """The checkpoint behind so many lines, which follows the log of this number."""
+        return checkpoint_text(self.kept(count)._replace(follows=follows))
 
     def has_read(self, content: Optional[bytes]) -> Read:
         """What a log reads as; one that isn't there has nothing."""
         return Read((), 0, None) if content is None else read_log(self.said, content)
 
-    def fault_of_life(self, life: Life) -> Optional[str]:
-        """What is wrong with what a life told, by the log that it left."""
+    def leads(self, left: Data) -> Leads:
+        """Where data lead that a run of the story left; or Wrong."""
+        if left.log is None:
+            if left.checkpoint is not None:
+                raise Wrong("there is a checkpoint, and no log")
+            return Leads(0, None, 0)
         try:
-            read = self.has_read(life.left)
+            read, number = self.has_read(left.log), cut_head(self.said, left.log)[0]
         except (NotALog, OtherWords) as fault:
-            return f"it left what is no log of its words: {fault!r}"
+            raise Wrong(f"there is no log of its words: {fault!r}") from fault
         if read.fault is not None:
-            return f"it left a log that is refused at line {read.fault}"
-        lines = lines_of(read)
-        if lines != self.lines[:len(lines)]:
-            return "the log has lines that weren't asked, or in another order"
-        if len(lines) < life.had:
-            return f"the log has {len(lines)} lines, and had {life.had}"
-        if not self.text(life.had, len(lines)).startswith(life.out):
-            return f"it told {life.out[-200:]!r}, which isn't what the log's {len(lines)} lines are told"
+            raise Wrong(f"the log is refused at line {read.fault}")
+        lines, point, follows = lines_of(read), *self.point_in(left.checkpoint)
+        own = number if left.checkpoint is None else spelled(sum_of(left.checkpoint))
+        if number not in (own, follows):
+            raise Wrong("the log is neither the checkpoint's own nor the one that it replaced")
+        # the log that was replaced has the last lines of the checkpoint
+        first = point if number == own else point - len(lines)
+        if first < 0 or lines != self.lines[first:first + len(lines)]:
+            raise Wrong("the log has lines that weren't asked, or in another order")
+        return Leads(first + len(lines), own, point)
+
+    def point_in(self, text: Optional[bytes]) -> tuple[int, Optional[bytes]]:
+        """Behind how many lines the checkpoint is, and which log it follows; or Wrong."""
+        if text is None:
+            return 0, None
+        try:
+            found = read_checkpoint(text, LOOSE)
+        except CheckpointRefused as refusal:
+            raise Wrong(f"the checkpoint is refused at line {refusal.line}") from refusal
+        for count in self.points:
+            if self.point(count, found.follows) == text:
+                return count, found.follows.encode()
+        raise Wrong("the checkpoint isn't that of the lines")
+
+    def fault_of_life(self, life: Life) -> Optional[str]:
+        """What is wrong with what a life told, by the data that it left."""
+        try:
+            found = self.leads(life.left)
+        except Wrong as fault:
+            return f"it left data that are wrong: {fault}"
+        if found.lines < life.had:
+            return f"the data have {found.lines} lines, and had {life.had}"
+        if not self.text(life.had, found.lines).startswith(life.out):
+            return f"it told {life.out[-200:]!r}, which isn't what the {found.lines} lines are told"
+        if not life.out.startswith(self.text(life.had, found.point)):
+            return f"there is a checkpoint of {found.point} lines, and it told {life.out[-200:]!r} last"
         return None
 
-    def fault_of_start(self, before: Optional[bytes], start: Life) -> Optional[str]:
-        """What is wrong with a start from a log of the story's lines, that was asked the looks."""
-        read = self.has_read(before)
-        count = len(lines_of(read))
+    def fault_of_all(self, left: Data) -> Optional[str]:
+        """What is wrong with the data behind all lines: there is a checkpoint of them, and a log without a batch."""
+        found = self.leads(left)
+        is_ended = found.point == len(self.lines) and left.log == head_with(self.said, found.number)
+        return None if is_ended else f"no checkpoint of all lines took the place of the log: {left!r:.300}"
+
+    def fault_of_start(self, before: Data, start: Life) -> Optional[str]:
+        """What is wrong with a start from data of the story's lines, that was asked the looks."""
+        found = self.leads(before)
         if (start.status, start.errors) != (0, b""):
             return f"the start ends with status {start.status}, {start.errors[:200]!r}"
-        shown = self.shown(count)
-        if start.out != shown:
-            return f"the start tells {start.out!r}, and behind {count} lines it is {shown!r}"
-        return None if start.left is None else self.fault_of_log(before, read, start.left, shown)
+        if start.out != self.shown(found.lines):
+            return f"the start tells {start.out!r}, and behind {found.lines} lines it is {self.shown(found.lines)!r}"
+        return self.fault_of_end(found, start.left)
 
-    def fault_of_log(self, before: Optional[bytes], read: Read, after: bytes, shown: bytes) -> Optional[str]:
-        """What is wrong with the log behind such a start: it has the old batches, and the looks as one more."""
-        told = int(read.batches[-1].told, 16) if read.batches else 0
-        batches = (*read.batches, Batch(tuple(self.probe), spelled(sum_after(told, shown))))
-        if before is not None and not after.startswith(before[:read.length]):
-            return "the log's batches were changed"
-        now = read_log(self.said, after)
-        return None if (now.batches, now.length) == (batches, len(after)) else "the log isn't its batches and one more"
+    def fault_of_end(self, found: Leads, left: Data) -> Optional[str]:
+        """What is wrong with the data behind such a start: there is a checkpoint of the lines and the looks, and a log without a batch."""
+        if left.checkpoint is None:
+            return "the start left no checkpoint"
+        follows = (left.checkpoint.split(b"\n")[1][len(b"follows "):] if found.number is None else found.number).decode()
+        text = checkpoint_text(self.kept(found.lines, True)._replace(follows=follows))
+        wanted = Data(head_with(self.said, spelled(sum_of(text))), text)
+        return None if left == wanted else f"the start left {left!r}, and not {wanted!r}"
 
 
 def lines_of(read: Read) -> list[bytes]:

@@ -15,6 +15,7 @@
 //                 3 if half of them are gone. What a rename replaces has a second name, NAME.replaced, until its folder is synced
 // FULL_AT=B       regular files take B bytes more in all, as on a disk that becomes full
 // QUICK_SYNC=1    a sync isn't waited for
+// CALLS_TOLD=F    how many calls of kind K there were, or without FAULT_CALL how many that change something, is in the file F at the end
 #define _GNU_SOURCE
 #include <dlfcn.h>
 #include <errno.h>
@@ -30,7 +31,7 @@
 #include <sys/syscall.h>
 #include <unistd.h>
 
-static const char *kind, *mark;
+static const char *kind, *mark, *calls_told;
 static unsigned long fault_at, short_read, short_write, short_input, interrupt, crash_at, crash_loses, quick_sync;
 static unsigned long calls, moves, changes;
 // how many bytes regular files still take, and whether that is bounded
@@ -45,6 +46,7 @@ static unsigned long number(const char *name) {
 __attribute__((constructor)) static void begin(void) {
     kind = getenv("FAULT_CALL");
     mark = getenv("FAULT_MARK");
+    calls_told = getenv("CALLS_TOLD");
     fault_at = kind ? number("FAULT_AT") : 0;
     short_read = number("SHORT_READ");
     short_write = number("SHORT_WRITE");
@@ -55,6 +57,22 @@ __attribute__((constructor)) static void begin(void) {
     quick_sync = number("QUICK_SYNC");
     is_bounded = getenv("FULL_AT") != NULL;
     room = number("FULL_AT");
+}
+
+__attribute__((destructor)) static void end(void) {
+    char text[24];
+    long file = calls_told ? syscall(SYS_openat, AT_FDCWD, calls_told, O_CREAT | O_WRONLY | O_TRUNC, 0666) : -1;
+    if (file < 0) return;
+    int length = snprintf(text, sizeof text, "%lu", kind ? calls : changes);
+    syscall(SYS_write, file, text, length);
+    syscall(SYS_close, file);
+}
+
+// a process that ends so has no destructor run
+__attribute__((noreturn)) void _exit(int status) {
+    end();
+    syscall(SYS_exit_group, status);
+    __builtin_unreachable();
 }
 
 // ---- crashes
@@ -157,13 +175,13 @@ static void crash(void) {
 }
 
 // whether this call that changes something is the one at which the process ends
-static int is_last(void) { return crash_at != 0 && __atomic_add_fetch(&changes, 1, __ATOMIC_SEQ_CST) == crash_at; }
+static int is_last(void) { return __atomic_add_fetch(&changes, 1, __ATOMIC_SEQ_CST) == crash_at; }
 
 // ---- faults
 
 // whether this call is the one that fails
 static int fails(const char *of, int error) {
-    if (fault_at == 0 || strcmp(kind, of) != 0 || __atomic_add_fetch(&calls, 1, __ATOMIC_SEQ_CST) != fault_at) return 0;
+    if (!kind || strcmp(kind, of) != 0 || __atomic_add_fetch(&calls, 1, __ATOMIC_SEQ_CST) != fault_at) return 0;
     if (mark) {
         long file = syscall(SYS_openat, AT_FDCWD, mark, O_CREAT | O_WRONLY, 0666);
         if (file >= 0) syscall(SYS_close, file);

@@ -28,6 +28,8 @@ class Asking:
 
     def __init__(self, random: Random, count: int):
         self.random = random
+        # those of the silo in memory
+        self.words = ["answer", *random.choice([[], ["--checkpoints"]]), *WORDS]
         self.greatest: dict[str, int] = {}
         # a caller, its number, the name of a counter, and how much is added
         self.asks: list[tuple[str, int, str, int]] = []
@@ -82,7 +84,7 @@ def lived(client: Asking, files: dict) -> bool:
             place = end
 
     try:
-        status = run_program(["answer", "--checkpoints", *WORDS], pieces(), written=told, folder_at=lambda *_given: CutMemory(files, calls),
+        status = run_program(client.words, pieces(), written=told, folder_at=lambda *_given: CutMemory(files, calls),
                              most_log=client.random.choice(LOGS)).status
     except Cut:
         status = None

@@ -6,6 +6,9 @@ of all bytes before it.
 There are two forms of it. The second also tells how many receipts and bytes a tenant may have, whether tenants come and go by lines, and
 each account's callers, with their greatest numbers and their receipts. A checkpoint is written in the first if it says nothing of these.
 
+A folder of the program may have a log of any number, and how many requests were accepted is looked at there once the text was read: `LOOSE`
+rules say that, and `STRICT` ones those of the form of folders that is to come.
+
 A text that is none is refused at its first line that fits no form in its place, behind the lines before it, counted from 1; what comes
 after the last LF is no line yet. So a length that is too great or too small is refused where a line of the list is missing or is one too
 many. The accounts are those of the journal's tenants, in their order: a `tenant` line of another is refused, and a missing one at the line
@@ -18,12 +21,12 @@ from __future__ import annotations
 
 import re
 from functools import partial
-from typing import NamedTuple, Optional
+from typing import Callable, NamedTuple, Optional
 
 from . import codes
-from .journal import (LAST_FORM, LAST_VERSION, MAX_NUMBER, MAX_TENANTS, Reader, RefusedAt, caller, fits, grain, journal_of, journal_text,
-                      message, number, read_age, read_journal, read_kind, read_kinds, read_reply, read_row, read_tenant, reply_fields,
-                      split, state)
+from .journal import (LAST_FORM, MAX_NUMBER, MAX_TENANTS, Reader, RefusedAt, caller, fits, grain, journal_of, journal_text, message,
+                      number, read_age, read_journal, read_kind, read_kinds, read_reply, read_row, read_tenant, reply_fields, split,
+                      state)
 from .kinds import Logic, Send
 from .log import DIGITS, more_lines, spelled as sum_spelled, sum_after
 from .machine import READY, Entry
@@ -31,10 +34,24 @@ from .names import Caller, Grain, is_word
 from .receipts import MAX_REPLIES, record_of
 from .silo import Setup, Silo
 from .steps import Client, Reply
+from .storage import LAST_VERSION
 from .values import spelled, spelled_message
 
 FORMS = FIRST, SECOND = "silo-checkpoint 1", "silo-checkpoint 2"
 IS_SUM = re.compile("[0-9a-f]{%d}" % DIGITS, re.ASCII).fullmatch
+IS_VISIBLE = re.compile("[!-~]*", re.ASCII).fullmatch
+
+
+class Rules(NamedTuple):
+    """Which texts are those of a checkpoint, where two forms of the program differ."""
+
+    # what it may follow
+    follows: Callable[[str], object]
+    # how many requests of a tenant may have been accepted
+    requests: int
+
+
+STRICT, LOOSE = Rules(IS_SUM, MAX_NUMBER), Rules(IS_VISIBLE, LAST_VERSION)
 
 
 class CheckpointRefused(RefusedAt):
@@ -75,8 +92,8 @@ class KeptGrain(NamedTuple):
 
 
 class Checkpoint(NamedTuple):
-    # the number of the log that it replaces
-    follows: int
+    # the number of the log that it replaces, as it is spelled
+    follows: str
     # how many sends are delivered after a line
     sends: int
     clock: int
@@ -98,7 +115,7 @@ class Checkpoint(NamedTuple):
 
 # ---- writing
 
-def checkpoint_of(silo: Silo, follows: int, sends: int) -> Checkpoint:
+def checkpoint_of(silo: Silo, follows: str, sends: int) -> Checkpoint:
     """What is kept of a silo in which nothing waits and no turn is open."""
     setup = silo.setup
     accounts = tuple(account_of(silo, tenant) for tenant, _limits in setup.tenants)
@@ -128,7 +145,7 @@ def account_lines(account: KeptAccount, form: str) -> list:
 
 def checkpoint_text(checkpoint: Checkpoint) -> bytes:
     form = SECOND if checkpoint.says_more() else FIRST
-    lines = [[form], ["follows", sum_spelled(checkpoint.follows).decode()], ["sends", checkpoint.sends]]
+    lines = [[form], ["follows", checkpoint.follows], ["sends", checkpoint.sends]]
     lines += [[line] for line in more_lines(checkpoint.replies, checkpoint.room, checkpoint.operator) if form == SECOND]
     lines += [["clock", checkpoint.clock], ["accounts", len(checkpoint.accounts)]]
     lines += [fields for account in checkpoint.accounts for fields in account_lines(account, form)]
@@ -152,10 +169,10 @@ def read_number(word: str, least: int, most: int, line: str, _before: list) -> i
     return number(*fields(word, line, 1), least, most)
 
 
-def read_follows(line: str, _before: list) -> int:
-    digits, = fields("follows", line, 1)
-    fits(IS_SUM(digits))
-    return int(digits, 16)
+def read_follows(rules: Rules, line: str, _before: list) -> str:
+    found, = fields("follows", line, 1)
+    fits(rules.follows(found))
+    return found
 
 
 def read_form(line: str, _before: list) -> str:
@@ -169,11 +186,12 @@ def read_bound(word: str, most: int, line: str, _before: list) -> Optional[int]:
     return None if found == "-" else number(found, 1, most)
 
 
-def read_account(form: str, line: str, _before: list) -> tuple[str, int, int, int]:
+def read_account(rules: Rules, form: str, line: str, _before: list) -> tuple[str, int, int, int]:
     """How many sends and callers it has, too."""
     tenant, count, sends, *callers = fields("account", line, 4 if form == SECOND else 3)
     fits(is_word(tenant))
-    return tenant, number(count), number(sends, most=LAST_VERSION), *(number(it, most=LAST_VERSION) for it in callers or ["0"])
+    lengths = [number(it, most=LAST_VERSION) for it in (sends, *(callers or ["0"]))]
+    return tenant, number(count, most=rules.requests), *lengths
 
 
 def read_send(tenant: str, line: str, _before: list) -> KeptSend:
@@ -212,10 +230,10 @@ def read_named_tenant(names: list[str], line: str, before: list) -> tuple:
     return found
 
 
-def take_accounts(reader: Reader, form: str) -> tuple[KeptAccount, ...]:
+def take_accounts(reader: Reader, rules: Rules, form: str) -> tuple[KeptAccount, ...]:
     found = []
     for _ in range(reader.next(partial(read_number, "accounts", 1, MAX_TENANTS))):
-        tenant, count, sends, callers = reader.next(partial(read_account, form))
+        tenant, count, sends, callers = reader.next(partial(read_account, rules, form))
         sent = tuple(reader.next(partial(read_send, tenant)) for _ in range(sends))
         found.append(KeptAccount(tenant, count, sent, take_callers(reader, tenant, callers)))
     return tuple(found)
@@ -254,21 +272,21 @@ def take_journal(reader: Reader, names: list[str]) -> bytes:
     return reader.text(begin, reader.place)
 
 
-def read_checkpoint(text: bytes) -> Checkpoint:
-    """The checkpoint whose text it is, or CheckpointRefused."""
+def read_checkpoint(text: bytes, rules: Rules = STRICT) -> Checkpoint:
+    """The checkpoint whose text it is by these rules, or CheckpointRefused."""
     try:
-        return take_checkpoint(Reader(text))
+        return take_checkpoint(Reader(text), rules)
     except RefusedAt as refusal:
         raise CheckpointRefused(refusal.line) from refusal
 
 
-def take_checkpoint(reader: Reader) -> Checkpoint:
+def take_checkpoint(reader: Reader, rules: Rules) -> Checkpoint:
     form = reader.next(read_form)
-    follows = reader.next(read_follows)
+    follows = reader.next(partial(read_follows, rules))
     sends = reader.next(partial(read_number, "sends", 0, LAST_VERSION))
     more = take_more(reader) if form == SECOND else (None, None, False)
     clock = reader.next(partial(read_number, "clock", 0, MAX_NUMBER))
-    accounts, grains = take_accounts(reader, form), take_grains(reader)
+    accounts, grains = take_accounts(reader, rules, form), take_grains(reader)
     journal = take_journal(reader, [account.tenant for account in accounts])
     after = sum_spelled(sum_after(0, reader.text(0, reader.place))).decode()
     reader.next(lambda line, _before: fits(line == f"sum {after}"))

@@ -51,7 +51,7 @@ def kept() -> Checkpoint:
     silo = Silo(Setup((("red", Limits(2, 4)), ("blue", Limits(1, 1))), ages=(("counter", 1000),)))
     for line in ASKED:
         answer_line(silo, line.encode(), 0)
-    return checkpoint_of(silo, 0x0123456789ABCDEF, 1000)
+    return checkpoint_of(silo, "0123456789abcdef", 1000)
 
 
 def a_checkpoint_has_this_text() -> bool:

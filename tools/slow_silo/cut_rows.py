@@ -1,4 +1,4 @@
-"""Lives of a silo with checkpoints that end at each call that changes a file or the output, in memory and on the disk.
+"""Lives of a silo with checkpoints, of both forms, that end at each call that changes a file or the output, in memory and on the disk.
 
 A call that is the last does half of its work, or nothing if it has no halves. Then the folder's one reading is where some of the lines
 lead: no fewer than were told, and at most a batch more. The next life is told what these lines' next ones are told without an end.
@@ -25,13 +25,16 @@ from .lines import ReaderFailed
 from .log import numbered_head, spelled
 from .program import FAULTS_OF_DATA, Run, run_program
 from .silo import Silo
-from .switched import MOST_LOG
-from .switch_rows import STORY, STORY_WORDS, answers_of, left_by, lines_text, setup_and_most
+from .switched import AT_THE_END, MOST_LOG, full
+from .folder_texts import left_by, lines_text, setup_and_most
+from .switch_rows import STORY, STORY_WORDS, answers_of
 
 # bytes of batches above which a log is replaced, and lines of a batch: so there are switches at some of the batches
 MOST, LINES = 300, 4
 MOST_CALLS = 10_000
 KILLED, BYTES_GONE, ZEROS, HALF_GONE = range(4)
+# those of the program, which has checkpoints at the end alone
+END_WORDS = [word for word in STORY_WORDS if word != "--checkpoints"]
 
 
 class Cut(Exception):
@@ -214,14 +217,14 @@ def batches_of(lines: list) -> list[list]:
 
 def state_text(silo: Silo) -> bytes:
     """All that is kept of a silo."""
-    return checkpoint_text(checkpoint_of(silo, 0, 0))
+    return checkpoint_text(checkpoint_of(silo, "", 0))
 
 
 def reading_of(files: dict, words: Sequence[str]) -> Optional[bytes]:
     """Where a folder leads; none if it is refused."""
     setup, most = setup_and_most(words)
     try:
-        silo, _log = switched.start(MemoryFolder(dict(files), "d"), setup, most, MOST)
+        silo, _log = switched.start(MemoryFolder(dict(files), "d"), setup, most, full(MOST) if "--checkpoints" in words else AT_THE_END)
     except tuple(FAULTS_OF_DATA):
         return None
     return state_text(silo)
@@ -276,12 +279,16 @@ def goes_on(story: Story, files: dict, count: int) -> bool:
     return is_whole(story, life, left, count) and not {"d/checkpoint.new", "d/log.new"} & set(left)
 
 
-def interrupted(lines: list, most: int = MOST) -> dict:
-    """The files of a silo that was asked these lines, and whose input then failed."""
+def interrupted(lines: list, most: int = MOST, words: Sequence[str] = STORY_WORDS, files: Optional[dict] = None) -> dict:
+    """The files of a silo that was asked these lines, from others or from none, and whose input then failed."""
     def batches() -> Iterator[bytes]:
         yield from map(lines_text, batches_of(lines))
         raise ReaderFailed
-    return run_program(STORY_WORDS, batches(), most_log=most).files
+    return run_program(words, batches(), files, most_log=most).files
+
+
+def ended(lines: list, words: Sequence[str] = END_WORDS) -> dict:
+    return run_program(words, map(lines_text, batches_of(lines))).files
 
 
 def is_stale(files: dict) -> bool:
@@ -291,33 +298,42 @@ def is_stale(files: dict) -> bool:
 
 
 # on the disk a life takes longer
-WHOLE, SHORT = Story(STORY), Story(STORY[:8])
+WHOLE, SHORT, WHOLE_AT_END, SHORT_AT_END = (Story(lines, words) for words in (STORY_WORDS, END_WORDS) for lines in (STORY, STORY[:8]))
+# folders of the program with a checkpoint of four lines, and how many lines they have
+BEGUN = [(ended(STORY[:4]), 4), (interrupted(STORY[4:8], words=END_WORDS, files=ended(STORY[:4])), 8)]
 
 
-def holds(live: Lived, story: Story) -> bool:
+def holds(live: Lived, story: Story, files: Optional[dict] = None, had: int = 0) -> bool:
     """Each life that ends at a call is as it should be. At some of these calls a log is stale."""
-    found = list(cut_lives(live, story, {}, 0))
+    found = list(cut_lives(live, story, files or {}, had))
     return all(is_well for is_well, _left in found) and any(is_stale(left) for _is_well, left in found)
 
 
 def each_life_in_memory_that_ends_at_a_call() -> bool:
-    return holds(lived_in_memory, WHOLE)
+    return holds(lived_in_memory, WHOLE) and holds(lived_in_memory, WHOLE_AT_END)
+
+
+def each_life_that_goes_on_from_a_checkpoint() -> bool:
+    return all(holds(lived_in_memory, WHOLE_AT_END, *begun) for begun in BEGUN)
 
 
 def each_life_on_the_disk_that_ends_at_a_call() -> bool:
-    return holds(partial(lived_on_disk, KILLED), SHORT)
+    return holds(partial(lived_on_disk, KILLED), SHORT) and holds(partial(lived_on_disk, KILLED), SHORT_AT_END)
 
 
 def each_life_that_ends_by_a_power_cut() -> bool:
-    return all(holds(partial(lived_on_disk, loses), SHORT) for loses in (BYTES_GONE, ZEROS, HALF_GONE))
+    """Also from a folder in whose place another checkpoint comes back."""
+    losing = [partial(lived_on_disk, loses) for loses in (BYTES_GONE, ZEROS, HALF_GONE)]
+    return all(holds(live, SHORT) and holds(live, SHORT_AT_END) and holds(live, SHORT_AT_END, *BEGUN[0]) for live in losing)
 
 
 def each_start_that_ends_at_a_call() -> bool:
     """It is asked nothing: it answers the batches of a log again, behind a checkpoint or without one, or passes over a stale log."""
     begun = [(interrupted(STORY[:count], most), Story(STORY[:count]), count) for count, most in ((8, MOST_LOG), (8, MOST), (32, MOST))]
+    begun += [(interrupted(STORY[:8], words=END_WORDS), SHORT_AT_END, 8), (BEGUN[1][0], SHORT_AT_END, 8)]
     first = [(left, story, count) for files, story, count in begun for _is_well, left in cut_lives(lived_in_memory, story, files, count)]
     again = [one for files, story, count in first if is_stale(files) for one in cut_lives(lived_in_memory, story, files, count)]
-    return ["d/checkpoint" in files for files, *_more in begun] == [False, True, True] and len(again) > 20 and all(
+    return ["d/checkpoint" in files for files, *_more in begun] == [False, True, True, False, True] and len(again) > 20 and all(
         is_well for is_well, _left in again) and all(story.kept(count, b"", files) == count for files, story, count in first)
 
 
@@ -342,17 +358,18 @@ def damaged(text: bytes) -> Iterator[tuple[int, bytes]]:
 
 
 def each_changed_byte_of_a_checkpoint_has_it_refused() -> bool:
-    """At its line or a later one; no other file changes, and nothing is told."""
-    files = interrupted(STORY[:24])
-    text = files["d/checkpoint"]
-    return all(is_refused(files, line, changed) for line, changed in damaged(text))
+    """At its line or a later one, if the line is told; no other file changes, and nothing is told."""
+    files, at_end = interrupted(STORY[:24]), BEGUN[1][0]
+    return all(is_refused(STORY_WORDS, files, line, changed) for line, changed in damaged(files["d/checkpoint"])) and all(
+        is_refused(END_WORDS, at_end, line, changed) for line, changed in damaged(at_end["d/checkpoint"]))
 
 
-def is_refused(files: dict, line: int, text: bytes, words: Sequence[str] = STORY_WORDS) -> bool:
+def is_refused(words: Sequence[str], files: dict, line: int, text: bytes) -> bool:
     before = {**files, "d/checkpoint": text}
-    run = run_program(list(words), lines_text(STORY[24:]), before)
-    said = re.fullmatch(rb"silo: checkpoint line (\d+) is refused\n", run.errors or b"")
-    return said is not None and line <= int(said[1]) <= text.count(b"\n") + 1 and (run.out, run.status, run.files) == (b"", 4, before)
+    run = run_program(words, lines_text(STORY[24:]), before)
+    said = re.fullmatch(rb"silo: (?:checkpoint line (\d+)|the checkpoint) is refused\n", run.errors or b"")
+    is_told = said is not None and (said[1] is not None) == ("--checkpoints" in words)
+    return is_told and line <= int(said[1] or line) <= text.count(b"\n") + 1 and (run.out, run.status, run.files) == (b"", 4, before)
 
 
 def a_checkpoint_beside_that_was_cut_or_changed_is_not_looked_at() -> bool:
@@ -365,6 +382,7 @@ def a_checkpoint_beside_that_was_cut_or_changed_is_not_looked_at() -> bool:
 
 
 CUT_CALLS: tuple[Callable[[], bool], ...] = (
-    each_life_in_memory_that_ends_at_a_call, each_life_on_the_disk_that_ends_at_a_call, each_life_that_ends_by_a_power_cut,
+    each_life_in_memory_that_ends_at_a_call, each_life_that_goes_on_from_a_checkpoint, each_life_on_the_disk_that_ends_at_a_call,
+    each_life_that_ends_by_a_power_cut,
     each_start_that_ends_at_a_call, each_start_under_other_words_that_ends_at_a_call, each_changed_byte_of_a_checkpoint_has_it_refused,
     a_checkpoint_beside_that_was_cut_or_changed_is_not_looked_at)

@@ -34,7 +34,10 @@ class Folder(Protocol):
         """Makes the folder if there is none, takes the lock, and gives the log's bytes, if there is one."""
 
     def checkpoint(self) -> Optional[bytes]:
-        """The checkpoint's bytes, if there is one. That takes no lock."""
+        """The checkpoint's bytes, if there is one. That takes no lock, and changes nothing."""
+
+    def own_checkpoint(self) -> Optional[bytes]:
+        """The same, once the folder is open: they are then on the disk, with the checkpoint's name."""
 
     def place(self, checkpoint: bytes) -> None:
         """Makes a checkpoint of these bytes, on the disk. One that was there is gone."""
@@ -64,6 +67,8 @@ class MemoryFolder:
 
     def checkpoint(self) -> Optional[bytes]:
         return self.files.get(f"{self.path}/{CHECKPOINT}")
+
+    own_checkpoint = checkpoint
 
     def place(self, checkpoint: bytes) -> None:
         self.replace(NEW_CHECKPOINT, CHECKPOINT, checkpoint)
@@ -103,23 +108,27 @@ class DiskFolder:
             fcntl.flock(self.lock, fcntl.LOCK_EX | fcntl.LOCK_NB)
         except OSError as error:
             raise InUse from error
-        return self.read()
+        found = self.read(LOG)
+        if found is None:
+            return None
+        self.log, content = found
+        return content
 
-    def read(self) -> Optional[bytes]:
-        """The bytes of the log, which is then on the disk, with its name."""
+    def read(self, name: str) -> Optional[tuple[int, bytes]]:
+        """A file of the folder, open, and its bytes, which are then on the disk, with its name."""
         try:
-            self.log = self.opened(LOG)
-            content = pathlib.Path(self.path, LOG).read_bytes()
+            file = self.opened(name)
+            content = pathlib.Path(self.path, name).read_bytes()
         except FileNotFoundError:
             return None
         except OSError as error:
             raise NotRead from error
         try:
-            os.fsync(self.log)
+            os.fsync(file)
             self.sync_names()
         except OSError as error:
             raise NotWritten from error
-        return content
+        return file, content
 
     def checkpoint(self) -> Optional[bytes]:
         try:
@@ -129,6 +138,14 @@ class DiskFolder:
             return None
         except (OSError, ValueError) as error:
             raise NotRead from error
+
+    def own_checkpoint(self) -> Optional[bytes]:
+        found = self.read(CHECKPOINT)
+        if found is None:
+            return None
+        file, content = found
+        os.close(file)
+        return content
 
     def opened(self, name: str, flags: int = 0) -> int:
         """A file of the folder, to be read and written at its end. It can't be a link."""

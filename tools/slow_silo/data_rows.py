@@ -1,6 +1,7 @@
-"""Worked rows of `answer --data`: folders before and after, to be followed by hand.
+"""Worked rows of `answer --data`, from a log without a checkpoint: folders before and after, to be followed by hand.
 
-Those of `DATA` are inputs of the program. Each of `DATA_CALLS` is a function that says whether it holds: of folders on the disk.
+Those of `DATA` are inputs of the program. Each of `DATA_CALLS` is a function that says whether it holds: of logs while a silo runs, and of
+folders on the disk. `end_rows` goes on from checkpoints.
 """
 
 from __future__ import annotations
@@ -8,33 +9,47 @@ from __future__ import annotations
 import pathlib
 import stat
 import tempfile
-from typing import Callable, Sequence
+from typing import Callable, Iterator, NamedTuple, Sequence, Union
 
-from .data import DiskFolder, InUse
+from .data import DiskFolder, MemoryFolder
+from .folder_texts import ANSWER, WORDS, after, ended, lines_text, log_of, point
 from .kinds import NEWEST
-from .log import Words, Writer, cut_head
-from .program import run_program
+from .lines import ReaderFailed
+from .log import Words, cut_head
+from .program import Run, run_program
 from .row import Row
-from .short_lines import (A, BLUE, LINE_TOO_LONG, NOT_A_REQUEST, SHEET, SWEEP, call, no, ok, poke, seen, status, text, tick, told)
+from .short_lines import A, LINE_TOO_LONG, NOT_A_REQUEST, SHEET, SWEEP, call, ok, seen, status, text, tick, told
 
-NUMBER = 0x0123456789ABCDEF
-WORDS = Words(NEWEST, 1000, 900000, (), (("red", 2, 4),))
-ANSWER = ["answer", "--data", "d", "red:2:4"]
 ADD, MORE, GET = call(1, A, "add", {"by": 3}), call(2, A, "add", {"by": 4}), call(3, A, "get")
 LONG = "x" * 65_537
 
 
-def log_of(*batches: tuple, words: Words = WORDS, number: int = NUMBER) -> str:
-    """A log of batches, each as its lines and what is told for them."""
-    writer = Writer(words, number)
-    for lines, said in batches:
-        writer.batch([line.encode() for line in lines], text(said).encode())
-    return writer.text.decode()
+class GoesOn(NamedTuple):
+    """A start from a log without a checkpoint."""
+
+    name: str
+    before: str
+    lines: list
+    out: list
+    # what the log then is, until the input ends
+    log: str
+    words: Sequence[str] = ANSWER
+
+    def row(self) -> Row:
+        """At the end of the input a checkpoint has the log's lines, if there are any."""
+        return Row(self.name, list(self.words), self.lines, self.out, files={"d/log": self.before}, files_after=ended(self.log, self.words))
+
+    def holds_still(self) -> bool:
+        """The log has the lines, and there is no checkpoint, if the input fails."""
+        def pieces() -> Iterator[bytes]:
+            yield lines_text(self.lines)
+            raise ReaderFailed
+
+        run = run_program(list(self.words), pieces(), {"d/log": self.before.encode()})
+        return run == Run(lines_text(self.out), b"silo: reading failed\n", 1, {"d/log": self.log.encode(), "d/lock": b""})
 
 
-def goes_on(name: str, before: str, lines: list, out: list, after: str, words: Sequence[str] = ANSWER) -> Row:
-    """A start from a log, with the log that it leaves."""
-    return Row(name, list(words), lines, out, files={"d/log": before}, files_after={"d/log": after, "d/lock": ""})
+goes_on = GoesOn
 
 
 def refused(name: str, before: str, status: int, errors: str, words: Sequence[str] = ANSWER) -> Row:
@@ -51,10 +66,10 @@ RELAYS = (call(1, "relay/red:r", "join", {"grain": "counter/blue:x"}) + call(2, 
 SET_UP = Words(NEWEST, 0, 10, (("counter", 5), ("sheet", 7)), (("red", 3, 4), ("blue", 1, 1)))
 SET_UP_WORDS = ["answer", "--sends", "0", "--age", "10", "--ages", "sheet=7,counter=5", "--data", "d", "red:3:4", "blue:1:1"]
 
-DATA = [
+LOGS: list[Union[GoesOn, Row]] = [
     goes_on("what was answered is in the log, behind its head", log_of(), ADD, ok(1, 3), log_of(FIRST)),
     goes_on("a start goes on from what the log has", TWO, GET, ok(3, 7), log_of(FIRST, SECOND, (GET, ok(3, 7)))),
-    goes_on("nothing is told of the log, and without a line nothing is added", TWO, [], [], TWO),
+    goes_on("nothing is told of the log, and without a line nothing is added to it", TWO, [], [], TWO),
     goes_on("rows, the clock and what rests come back",
             log_of((ADD + REST + tick(5), ok(1, 3) + ok(4, "1") + ok(5, None))), status(6) + GET,
             seen(6, 0, 5, 3) + ok(3, 3),
@@ -112,12 +127,35 @@ DATA = [
     Row("data twice", ["answer", "--data", "d", "--data", "e", "red:2:4"], GET, [], 2, "error: twice"),
     Row("data that are no option of another command", ["steps", "--data", "d", "red:2:4"], [], [], 2, "error: unknown"),
 ]
+DATA = [it.row() if isinstance(it, GoesOn) else it for it in LOGS]
+
+
+def each_log_stays_if_the_input_fails() -> bool:
+    """All lines are in the log, and no checkpoint is made."""
+    return all(it.holds_still() for it in LOGS if isinstance(it, GoesOn))
+
+
+def a_refused_log_gets_no_checkpoint() -> bool:
+    """Nor does a folder to which nothing was done get any file."""
+    refusals = [it for it in DATA if it.status]
+    return len(refusals) > 20 and all(run_program(it.words, lines_text(it.lines), {
+        path: content.encode() for path, content in it.files.items()}).files.keys() == it.files_after.keys() for it in refusals)
 
 
 def a_new_folder_has_a_log_of_its_lines() -> bool:
-    run = run_program(ANSWER, text(ADD).encode())
-    number, _end = cut_head(WORDS, run.files["d/log"])
-    return run.files == {"d/lock": b"", "d/log": log_of(FIRST, number=int(number, 16)).encode()}
+    """Its number is random. At the end a checkpoint follows it."""
+    files: dict = {}
+
+    def pieces() -> Iterator[bytes]:
+        yield lines_text(ADD)
+        files.update(held)
+
+    held: dict = {}
+    run = run_program(ANSWER, pieces(), folder_at=lambda path, _is_synced: MemoryFolder(held, path))
+    number, _end = cut_head(WORDS, files["d/log"])
+    is_log = files == {"d/lock": b"", "d/log": log_of(FIRST, number=int(number, 16)).encode()}
+    wanted = after(point(ADD, int(number, 16)))
+    return is_log and run.out == lines_text(ok(1, 3)) and held == {path: content.encode() for path, content in wanted.items()}
 
 
 def two_new_logs_have_two_numbers() -> bool:
@@ -143,7 +181,7 @@ def what_is_on_the_disk_is_its_owners() -> bool:
         first, second = on_disk(str(data), text(ADD).encode()), on_disk(str(data), text(MORE).encode())
         modes = {path.name: stat.S_IMODE(path.stat().st_mode) for path in [data, *data.iterdir()]}
     return (first, second) == ((text(ok(1, 3)).encode(), b"", 0), (text(ok(2, 7)).encode(), b"", 0)) and modes == {
-        "data": 0o700, "lock": 0o600, "log": 0o600}
+        "data": 0o700, "checkpoint": 0o600, "lock": 0o600, "log": 0o600}
 
 
 def a_folder_that_another_has_is_in_use() -> bool:
@@ -183,12 +221,23 @@ def what_one_piece_brings_is_a_batch() -> bool:
     lines = [line.encode() + b"\n" for line in ADD + MORE + GET] + [put[0].encode() + b"\n"] * 20
     # 17 lines have less than a megabyte, and 18 more
     pieces = [lines[0] + lines[1][:9], lines[1][9:12], lines[1][12:] + lines[2], b"", b"".join(lines[3:]), b"last"]
-    run = run_program(ANSWER, pieces, files)
+
+    def failing() -> Iterator[bytes]:
+        yield from pieces[:-1]
+        # the last one has no LF, and is a line only at the end
+        yield pieces[-1] + b"\n"
+        raise ReaderFailed
+
+    run = run_program(ANSWER, failing(), files)
     batches = [FIRST, (MORE + GET, ok(2, 7) + ok(3, 7)), (put * 18, ok(1, None) * 18), (put * 2, ok(1, None) * 2),
                (["last"], NOT_A_REQUEST)]
-    return run.files["d/log"].decode() == log_of(*batches)
+    whole = run_program(ANSWER, pieces, files)
+    wanted = {path: content.encode() for path, content in ended(log_of(*batches)).items()}
+    return run.files["d/log"].decode() == log_of(*batches) and (whole.out, whole.files) == (run.out, wanted)
 
 
 DATA_CALLS: tuple[Callable[[], bool], ...] = (
+    each_log_stays_if_the_input_fails, a_refused_log_gets_no_checkpoint,
     a_new_folder_has_a_log_of_its_lines, two_new_logs_have_two_numbers, what_is_on_the_disk_is_its_owners,
-    a_folder_that_another_has_is_in_use, links_are_no_files_of_the_folder, a_folder_that_cant_be_made_cant_be_written, what_one_piece_brings_is_a_batch)
+    a_folder_that_another_has_is_in_use, links_are_no_files_of_the_folder, a_folder_that_cant_be_made_cant_be_written,
+    what_one_piece_brings_is_a_batch)

@@ -1,14 +1,15 @@
-"""Lines that are answered once they are in a log: a start answers the log again, and goes on as the silo that it was."""
+"""Lines that are answered once they are in a log, and logs whose lines are answered again, or whose place a checkpoint takes."""
 
 from __future__ import annotations
 
 import os
-from typing import Callable, Iterable, NamedTuple
+from typing import Callable, Iterable, NamedTuple, Optional
 
 from .answer import MAX_ANSWERED_LINES
+from .checkpoint import IS_VISIBLE, checkpoint_of, checkpoint_text, sum_of
 from .data import Folder
 from .lines import MAX_LINE, TooMuchInput
-from .log import Place, Words, cut_head, head_text, read_log, spelled
+from .log import Place, Words, cut_head, head_with, read_log, spelled
 from .once import answer_line
 from .silo import Setup, Silo
 
@@ -36,24 +37,60 @@ class Answered(NamedTuple):
     length: int
 
 
+class Found(NamedTuple):
+    """What a folder has."""
+
+    # the silo to which the checkpoint leads, and how many bytes that has
+    silo: Silo
+    checkpoint: int
+    # of the log: its number as it is spelled
+    words: Words
+    number: bytes
+    # its bytes; none if it is to be begun
+    log: Optional[bytes]
+
+
 class Log:
-    """The log of a folder, and where it goes on."""
+    """The log of a folder, where it goes on, and the silo to which its lines lead."""
 
-    def __init__(self, folder: Folder, place: Place):
-        self.folder, self.place = folder, place
+    def __init__(self, folder: Folder, found: Found, place: Place, has_lines: bool, most: Optional[int]):
+        self.folder, self.place, self.has_lines = folder, place, has_lines
+        self.silo, self.words, self.number, self.checkpoint = found.silo, found.words, found.number, found.checkpoint
+        # bytes of batches that were written, and how many there may be while the silo runs
+        self.batches, self.most = 0, most
 
-    def keep(self, lines: list[bytes], text: bytes) -> int:
-        """Has a batch in the log, and on the disk. Gives its length there."""
+    def keep(self, lines: list[bytes], text: bytes) -> None:
+        """Has a batch in the log, and on the disk."""
         batch = self.place.batch(lines, text)
         self.folder.append(batch)
         self.folder.sync()
-        return len(batch)
+        self.batches += len(batch)
+        self.has_lines = True
 
     def told(self) -> None:
         """What is done once the texts of a batch are told."""
+        if self.most is not None and self.batches > max(self.checkpoint, self.most):
+            self.switch()
 
     def end(self) -> None:
         """What is done at the end of the input."""
+        if self.has_lines:
+            self.switch()
+
+    def switch(self) -> None:
+        """Has all that the log leads to in a checkpoint, and begins a log that goes on from there. Nothing is done if the log's number
+        can't stand in a checkpoint, or would be the new one's, too."""
+        follows = self.number.decode("latin-1")
+        if not IS_VISIBLE(follows):
+            return
+        text = checkpoint_text(checkpoint_of(self.silo, follows, self.words.sends))
+        number = spelled(sum_of(text))
+        if number == self.number:
+            return
+        self.folder.place(text)
+        self.words = words_of(self.silo.setup, self.words.sends)
+        self.number, self.place = number, begin_log(self.folder, self.words, number)
+        self.checkpoint, self.batches, self.has_lines = len(text), 0, False
 
 
 def words_of(setup: Setup, sends: int) -> Words:
@@ -67,12 +104,12 @@ def text_of(silo: Silo, line: bytes, most: int) -> bytes:
     return "".join(told + "\n" for told in answer_line(silo, line, most)).encode()
 
 
-def random_number() -> int:
-    return int.from_bytes(os.urandom(8), "little")
+def random_number() -> bytes:
+    return spelled(int.from_bytes(os.urandom(8), "little"))
 
 
-def begin_log(folder: Folder, words: Words, number: int) -> Place:
-    head = head_text(words, number)
+def begin_log(folder: Folder, words: Words, number: bytes) -> Place:
+    head = head_with(words, number)
     folder.begin(head)
     return Place(head)
 
@@ -91,17 +128,6 @@ def answer_again(silo: Silo, content: bytes, words: Words) -> Answered:
     if read.fault is not None:
         raise LogRefused(read.fault)
     return Answered(place, lines, read.length)
-
-
-def start(folder: Folder, setup: Setup, sends: int) -> tuple[Silo, Log]:
-    """The silo that the folder's log leads to; what stands behind the log's last batch is cut off. A refused log stays as it is."""
-    silo, words, content = Silo(setup), words_of(setup, sends), folder.open()
-    if content is None:
-        return silo, Log(folder, begin_log(folder, words, random_number()))
-    again = answer_again(silo, content, words)
-    if again.length != len(content):
-        folder.keep(again.length)
-    return silo, Log(folder, again.place)
 
 
 class Batch:

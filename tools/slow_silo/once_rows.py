@@ -6,18 +6,20 @@ import json
 from typing import Callable, Sequence
 
 from .checkpoint import checkpoint_of, checkpoint_text, read_checkpoint
-from .cut_rows import Story, cut_lives, damaged, is_refused, lived_in_memory
-from .data_rows import ADD, FIRST, GET, MORE, NUMBER, log_of
+from .cut_rows import Story, damaged, holds, is_refused, lived_in_memory
+from .data_rows import ADD, FIRST, GET, MORE, GoesOn
+from .end_rows import JOINS, OTHER_WORDS, POINT_REFUSED, SENT
+from .folder_texts import NUMBER, after, changed, left_by, lines_text, log_of, of, point, summed, words_said
+from .log import spelled
 from .program import run_program
 from .receipts import MAX_BYTES, MAX_RECEIPTS
 from .row import Row
 from .short_lines import (A, B, BLUE, LINE_TOO_LONG, NOT_A_REQUEST, RED, RELAY, SHEET, SWEEP, call, line, no, ok, poke, seen, status, tick,
                           told)
-from .switch_rows import JOINS, SENT, after, changed, left_by, lines_text, of, point, refused, row, summed, words_said
+from .switch_rows import refused, row
 
 OTHER = "red/c2"
 ONE = ["answer", "--data", "d", "--checkpoints", "--replies", "10", "red:2:4"]
-NO_CHECKPOINT = [word for word in ONE if word != "--checkpoints"]
 WITHOUT = ["answer", "--data", "d", "--checkpoints", "red:2:4"]
 
 
@@ -46,6 +48,15 @@ def unseen(number: int, whose: str, to: str = RED) -> list:
 def few(most: int, *more: str) -> list:
     """Words by which a tenant may have so many receipts."""
     return ["answer", "--data", "d", "--replies", str(most), *(more or ["red:2:4"])]
+
+
+def at_end(words: Sequence[str]) -> list:
+    """These words, with a checkpoint at the end alone."""
+    return [word for word in words if word != "--checkpoints"]
+
+
+def of_both_forms(rows: list[Row]) -> list[Row]:
+    return [*rows, *(it._replace(words=at_end(it.words)) for it in rows)]
 
 
 def asked(name: str, lines: list, out: list, words: Sequence[str] = tuple(ONE)) -> Row:
@@ -223,6 +234,13 @@ AGAIN = once(ADD + MORE + add(3, 1) + call(4, A, "get") + add(8, 1, OTHER)) + la
 AGAIN_TOLD = was(1) + ok(2, 7) + was(3) + no(4, 60, "method is unknown") + was(8, OTHER) + ok(5, 4) + ok(5, 9, OTHER)
 LOGGED = log_of((ONE_LINES, ONE_TOLD), words=words_said(ONE))
 HELD = after(ONE_POINT, ONE)
+# in the form that has a checkpoint at the end alone
+LOGS = [
+    GoesOn("lines with numbers are answered again, and are in a checkpoint with those that are asked", LOGGED, AGAIN, AGAIN_TOLD,
+           log_of((ONE_LINES, ONE_TOLD), (AGAIN, AGAIN_TOLD), words=words_said(ONE)), at_end(ONE)),
+    GoesOn("lines whose receipts are told again are in a log as others", ONE_LOG, once(ADD + ADD), ok(1, 3) * 2,
+           log_of((once(ADD + ADD), ok(1, 3) * 2), words=words_said(ONE)), at_end(ONE)),
+]
 
 
 def under(checkpoint: str, then: str, words: Sequence[str], lines: list, out: list, *parts: str) -> Row:
@@ -231,15 +249,16 @@ def under(checkpoint: str, then: str, words: Sequence[str], lines: list, out: li
     return row(then, after(checkpoint, ONE), lines, out, after(left, words), words)
 
 
-STARTS = [
+BOTH = [
     row("at the end of the input numbers and receipts are in the checkpoint", {"d/log": ONE_LOG}, ONE_LINES, ONE_TOLD, HELD, ONE),
     row("a start goes on from them", HELD, AGAIN, AGAIN_TOLD, after(changed(ONE_POINT, of(ONE_POINT)), ONE), ONE),
     row("the log that the checkpoint replaced is passed over", {"d/checkpoint": ONE_POINT, "d/log": LOGGED}, [], [], HELD, ONE),
     row("they come back with a log's lines", {"d/log": LOGGED}, [], [], HELD, ONE),
-    row("also where there are no checkpoints", {"d/log": LOGGED}, AGAIN, AGAIN_TOLD,
-        {"d/log": log_of((ONE_LINES, ONE_TOLD), (AGAIN, AGAIN_TOLD), words=words_said(ONE))}, NO_CHECKPOINT),
-    row("lines whose receipts are told again are in a log as others", {"d/log": ONE_LOG}, once(ADD + ADD), ok(1, 3) * 2,
-        {"d/log": log_of((once(ADD + ADD), ok(1, 3) * 2), words=words_said(ONE))}, NO_CHECKPOINT),
+    refused("a log of other replies", {"d/log": ONE_LOG}, 2, OTHER_WORDS, few(9, "--checkpoints", "red:2:4")),
+    refused("a log of before, without a checkpoint", {"d/log": log_of(FIRST)}, 2, OTHER_WORDS, ONE),
+    refused("a log of the second form without the option", {"d/log": ONE_LOG}, 4, "log line 1 is refused", WITHOUT),
+]
+STARTS = [
     under(ONE_POINT, "fewer receipts than there are may be given", few(1, "--checkpoints", "red:2:4"), AGAIN + once(add(5, 1)),
           AGAIN_TOLD + unseen(5, "red"), "replies 10", "replies 1"),
     under(ONE_POINT, "without the option numbers and receipts stay", WITHOUT, once(ADD) + last(1), NOT_A_REQUEST * 2,
@@ -253,11 +272,12 @@ STARTS = [
         once(ADD), ok(1, 6), after(point(ADD + once(ADD), of(changed(point(ADD, words=ONE), of(point(ADD)))), ONE), ONE), ONE),
     Row("the rows of such a folder", ["rows", "d"], [], ['{"active":"counter/red:a","version":null,"last":0,"until":0,"state":7}'],
         files={"d/checkpoint": ONE_POINT}),
-    refused("a log of other replies", {"d/log": ONE_LOG}, 2, "the data have other words", few(9)),
-    refused("a log of before, without a checkpoint", {"d/log": log_of(FIRST)}, 2, "the data have other words", NO_CHECKPOINT),
-    refused("a log of the second form without the option", {"d/log": ONE_LOG}, 4, "log line 1 is refused", WITHOUT),
     refused("a tenant with a caller can't be left out", after(point(once(call(9, "what", "get")), words=ONE), ONE), 2,
             "the data have the tenant red", few(10, "--checkpoints", "blue:1:1")),
+    *(refused(f"with a checkpoint at the end alone, a checkpoint of other words: {name}", before, 2, OTHER_WORDS, words)
+      for name, before, words in (
+          ("other replies", HELD, few(9)), ("none", HELD, at_end(WITHOUT)), ("bytes", HELD, few(10, "--bytes", "9", "red:2:4")),
+          ("an operator", HELD, few(10, "--operator", "red:2:4")), ("one of before", after(point(ADD)), at_end(ONE)))),
 ]
 
 # ---- checkpoints that are refused
@@ -306,7 +326,8 @@ FORGED = [
     forged("the second form without them", 4, "replies 10\nbytes -\noperator 0\n", ""),
 ]
 
-ONCE: list[Row] = [*NUMBERS, *SEEN, *SENDS, *BOUNDS, *FORMS, *STARTS, *FORGED]
+ONCE: list[Row] = [*NUMBERS, *SEEN, *SENDS, *BOUNDS, *FORMS, *of_both_forms(BOTH), *(it.row() for it in LOGS), *STARTS, *FORGED,
+                   *(it._replace(words=at_end(it.words), errors="silo: " + POINT_REFUSED) for it in FORGED)]
 
 
 # ---- runs
@@ -342,20 +363,24 @@ STORY = (once(JOINS + SENT[2:]) + once(SENT[2:]) + once(ADD) + once(add(4, 1), s
 
 def each_life_with_receipts_that_ends_at_a_call() -> bool:
     """It leaves where some first lines lead, with their receipts and tenants, as it would without (cut_rows.py)."""
-    found = list(cut_lives(lived_in_memory, Story(STORY, STORY_WORDS), {}, 0))
-    return len(found) > 40 and all(is_well for is_well, _left in found)
+    return all(holds(lived_in_memory, Story(STORY, words)) for words in (STORY_WORDS, at_end(STORY_WORDS)))
 
 
 def each_changed_byte_of_a_checkpoint_with_receipts_has_it_refused() -> bool:
     files = {"d/checkpoint": ONE_POINT.encode(), "d/log": log_of(words=words_said(ONE)).encode(), "d/lock": b""}
-    return all(is_refused(files, line_, text, ONE) for line_, text in damaged(ONE_POINT.encode()))
+    return all(is_refused(words, files, line_, text) for words in (ONE, at_end(ONE)) for line_, text in damaged(ONE_POINT.encode()))
+
+
+def each_log_with_receipts_stays_if_the_input_fails() -> bool:
+    return all(it.holds_still() for it in LOGS)
 
 
 def what_was_kept_of_callers_is_read() -> bool:
-    kept = checkpoint_of(left_by(STORY, STORY_WORDS), NUMBER, 1)
+    kept = checkpoint_of(left_by(STORY, STORY_WORDS), spelled(NUMBER).decode(), 1)
     return read_checkpoint(checkpoint_text(kept)) == kept and len(kept.accounts) == 3
 
 
 ONCE_CALLS: tuple[Callable[[], bool], ...] = (
     a_caller_has_a_thousand_receipts_at_most, a_caller_has_receipts_of_a_megabyte_at_most, each_life_with_receipts_that_ends_at_a_call,
-    each_changed_byte_of_a_checkpoint_with_receipts_has_it_refused, what_was_kept_of_callers_is_read)
+    each_changed_byte_of_a_checkpoint_with_receipts_has_it_refused, each_log_with_receipts_stays_if_the_input_fails,
+    what_was_kept_of_callers_is_read)

@@ -8,6 +8,7 @@ from .call_rows import CALL_ROWS
 from .checkpoint_rows import CHECKPOINT_ROWS
 from .cut_rows import CUT_CALLS
 from .data_rows import DATA_CALLS
+from .end_rows import END_CALLS
 from .log_rows import LOG_ROWS
 from .once_rows import ONCE, ONCE_CALLS
 from .program import run_program
@@ -53,7 +54,7 @@ def main() -> int:
     """Prints each row that differs, and last 'N passed, M failed'."""
     passed = failed = 0
     checks = [(row.name, difference, row) for row in (*ROWS, *SWITCHED, *ONCE, *TENANT_ROWS)]
-    calls = (*CALL_ROWS, *LOG_ROWS, *CHECKPOINT_ROWS, *DATA_CALLS, *SWITCH_CALLS, *CUT_CALLS, *ONCE_CALLS, *TENANT_CALLS)
+    calls = (*CALL_ROWS, *LOG_ROWS, *CHECKPOINT_ROWS, *DATA_CALLS, *END_CALLS, *SWITCH_CALLS, *CUT_CALLS, *ONCE_CALLS, *TENANT_CALLS)
     checks += [(check.__name__.replace("_", " "), call_difference, check) for check in calls]
     for name, run, row in checks:
         what = run(row)

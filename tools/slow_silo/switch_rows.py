@@ -1,7 +1,7 @@
 """Worked rows of folders with checkpoints, before and after, to be followed by hand.
 
-`SWITCHED` are inputs of the slow silo alone: the program has no checkpoints yet. Each of `SWITCH_CALLS` is a function that says whether it
-holds. `cut_rows` has lives that end at each call.
+`SWITCHED` are inputs of the slow silo alone, in the form that is to come: those of `end_rows` that hold in it, too, and others. Each of
+`SWITCH_CALLS` is a function that says whether it holds. `cut_rows` has lives that end at each call.
 """
 
 from __future__ import annotations
@@ -13,61 +13,24 @@ from typing import Callable, Iterable, Iterator, Sequence
 from unittest import mock
 
 from . import logged
-from .checkpoint import checkpoint_of, checkpoint_text, read_checkpoint, sum_of
+from .checkpoint import checkpoint_text, read_checkpoint, sum_of
 from .checkpoint_rows import TEXT
 from .data import DiskFolder, MemoryFolder
-from .data_rows import ADD, FIRST, GET, MORE, NUMBER, SECOND, TWO, WORDS, log_of
+from .data_rows import ADD, FIRST, GET, MORE, SECOND, TWO
+from .end_rows import BATCH, BEHIND, BOTH as OF_BOTH_FORMS, FAULTY, FIRST_POINT, HEAD, JOINS, KIND_POINT, OF_TEXT, OLD_POINT, OTHER_LOG
+from .end_rows import ROW, ROW_POINT, SAVED, SENT, STALE, WAITING as AT_ONCE
+from .folder_texts import NUMBER, WORDS, after, changed, lines_text, log_of, of, point, setup_and_most, words_said
 from .lines import ReaderFailed
-from .log import Words, cut_head, head_with, spelled, sum_after
-from .logged import text_of, words_of
-from .once import answer_line
-from .program import Run, run_program, setup_of_words
+from .log import cut_head, head_with, spelled
+from .logged import text_of
+from .program import Run, run_program
 from .row import Row
-from .short_lines import A, BLUE, RELAY, SHEET, SWEEP, call, no, ok, poke, seen, status, text, tick
+from .short_lines import A, BLUE, SHEET, SWEEP, call, no, ok, poke, seen, status, tick
 from .silo import Silo
 from .switched import MOST_LOG
 
 KEPT = ["answer", "--data", "d", "--checkpoints", "red:2:4"]
 WIDER = ["answer", "--data", "d", "--checkpoints", "--age", "7", "--ages", "sheet=5", "--sends", "0", "blue:1:1", "red:3:4"]
-
-
-def left_by(lines: list, words: Sequence[str] = KEPT) -> Silo:
-    """A silo without a folder that was asked these lines."""
-    setup, most = setup_and_most(words)
-    silo = Silo(setup)
-    for line in lines:
-        answer_line(silo, line.encode(), most)
-    return silo
-
-
-def setup_and_most(words: Sequence[str]) -> tuple:
-    """What the words of `answer` set up, and how many sends are delivered after a line."""
-    most = int(words[words.index("--sends") + 1]) if "--sends" in words else 1000
-    return setup_of_words(list(words)), most
-
-
-def words_said(words: Sequence[str]) -> Words:
-    return words_of(*setup_and_most(words))
-
-
-def point(lines: list, follows: int = NUMBER, words: Sequence[str] = KEPT) -> str:
-    """The checkpoint of a silo that was asked these lines."""
-    return checkpoint_text(checkpoint_of(left_by(lines, words), follows, setup_and_most(words)[1])).decode()
-
-
-def of(checkpoint: str) -> int:
-    """The number of the log that goes on from a checkpoint."""
-    return sum_of(checkpoint.encode())
-
-
-def summed(body: str) -> str:
-    """A checkpoint of these lines, with their sum."""
-    return body + "sum " + spelled(sum_after(0, body.encode())).decode() + "\n"
-
-
-def after(point_of: str, words: Sequence[str] = KEPT) -> dict:
-    """A folder behind a switch."""
-    return {"d/checkpoint": point_of, "d/log": log_of(words=words_said(words), number=of(point_of)), "d/lock": ""}
 
 
 def row(name: str, before: dict, lines: list, out: list, then: dict, words: Sequence[str] = KEPT) -> Row:
@@ -79,84 +42,24 @@ def refused(name: str, before: dict, status_: int, errors: str, words: Sequence[
     return Row(name, list(words), GET, [], status_, "silo: " + errors, before, {**before, "d/lock": ""})
 
 
+def with_option(words: Sequence[str]) -> list:
+    return [*words[:3], "--checkpoints", *words[3:]]
+
+
 # ---- starts and ends
 
-FIRST_POINT = """\
-silo-checkpoint 1
-follows 0123456789abcdef
-sends 1000
-clock 0
-accounts 1
-account red 1 0
-grains 1
-up counter/red:a - 0 0 030000000000000003
-silo-journal 3
-kinds 2
-age 900000
-tenant red 2 4
-close 0
-sum 3d624f2648a4ee39
-"""
-BEHIND = after(FIRST_POINT)
-BATCH = log_of(SECOND, number=of(FIRST_POINT))
-HEAD = log_of(number=of(FIRST_POINT))
-STALE = {"d/checkpoint": FIRST_POINT, "d/log": log_of(FIRST)}
 STARTS = [
-    row("at the end of the input there is a checkpoint, and a log that goes on from it", {"d/log": log_of()}, ADD, ok(1, 3), BEHIND),
-    row("a start goes on from both", BEHIND, MORE, ok(2, 7), after(point(ADD + MORE, of(FIRST_POINT)))),
-    row("a start that is asked nothing changes nothing", BEHIND, [], [], BEHIND),
-    row("nor is there a checkpoint of a log of no line", {"d/log": log_of()}, [], [], {"d/log": log_of(), "d/lock": ""}),
-    row("lines that a log has are answered again, and are then in a checkpoint", {**BEHIND, "d/log": BATCH}, [], [],
-        after(point(ADD + MORE, of(FIRST_POINT)))),
-    row("what such a start is asked goes on from there", {**BEHIND, "d/log": BATCH}, GET, ok(3, 7),
+    row("what a start is asked that answered lines again goes on from their checkpoint", {**BEHIND, "d/log": BATCH}, GET, ok(3, 7),
         after(point(ADD + MORE + GET, of(point(ADD + MORE, of(FIRST_POINT)))))),
-    row("so are those of a log that goes on from nothing", {"d/log": TWO}, [], [], after(point(ADD + MORE))),
-    row("a torn end is cut off", {**BEHIND, "d/log": HEAD + "+{"}, [], [], BEHIND),
     row("a torn end behind a batch", {**BEHIND, "d/log": BATCH + "+{"}, GET, ok(3, 7),
         after(point(ADD + MORE + GET, of(point(ADD + MORE, of(FIRST_POINT)))))),
-    row("the log that the checkpoint replaced is passed over", STALE, [], [], BEHIND),
-    row("whatever stands behind its head", {**STALE, "d/log": TWO + "what\n"}, GET, ok(3, 3), after(point(ADD + GET, of(FIRST_POINT)))),
-    row("and whatever words it has", {**STALE, "d/log": log_of(words=WORDS._replace(age=1))}, [], [], BEHIND),
-    row("what was begun beside is passed over", {**BEHIND, "d/checkpoint.new": "silo-ch", "d/log.new": "si"}, MORE, ok(2, 7),
-        after(point(ADD + MORE, of(FIRST_POINT)))),
-    row("nothing is brought to the disk", BEHIND, MORE, ok(2, 7), after(point(ADD + MORE, of(FIRST_POINT))), [*KEPT, "--no-sync"]),
-    row("without the option a checkpoint isn't looked at", {"d/checkpoint": "what", "d/log": TWO}, [], [],
-        {"d/checkpoint": "what", "d/log": TWO, "d/lock": ""}, ["answer", "--data", "d", "red:2:4"]),
-]
-
-# ---- what is kept
-
-STAYS = call(1, A, "stay", {"for": 100}) + call(2, SHEET, "put", {"name": "k", "value": {"$hex": "00ff"}}) + tick(40)
-IDLE = ["answer", "--data", "d", "--checkpoints", "--age", "50", "--ages", "sheet=60", "red:9:4"]
-JOINS = call(1, RELAY, "join", {"grain": A}) + call(2, RELAY, "join", {"grain": "counter/red:b"})
-SENT = JOINS + call(3, RELAY, "send", {"method": "add", "args": {"by": 1}})
-WAITING = ["answer", "--data", "d", "--checkpoints", "--sends", "1", "red:9:4"]
-SAVED = ADD + call(2, A, "save") + call(3, SHEET, "save")
-
-
-def goes_on(name: str, first: list, lines: list, out: list, words: Sequence[str] = KEPT) -> Row:
-    """What a silo that was left behind the first lines answers."""
-    before = point(first, words=words)
-    return row(name, after(before, words), lines, out, after(point(first + lines, of(before), words), words), words)
-
-
-ACROSS = [
-    goes_on("an activation that stays isn't collected before its moment, counted from before the switch", STAYS,
-            tick(99) + SWEEP + status(3) + tick(100) + SWEEP + status(4), seen(3, 1, 99, 2) + seen(4, 0, 100, 2), IDLE),
-    goes_on("an idle one is collected once its kind's age is over", STAYS, tick(59) + SWEEP + status(3) + tick(60) + SWEEP + status(4),
-            seen(3, 2, 59, 2) + seen(4, 1, 60, 2), IDLE),
-    goes_on("of what was sent, one is delivered behind the next line", SENT,
-            status(4) + call(5, A, "get") + call(6, "counter/red:b", "get"), seen(4, 2, 0, 4) + ok(5, 1) + ok(6, 1), WAITING),
-    goes_on("rows have their versions", SAVED, call(4, A, "save") + call(5, SHEET, "clear") + call(6, SHEET, "save"),
-            ok(4, "2") + ok(5, "2") + ok(6, "3")),
-    goes_on("and activations the versions on which they stand", SAVED + poke(4, A, 9), call(5, A, "save") + call(6, A, "get"),
-            no(5, 54, "stored state of counter/red:a has changed") + ok(6, 9)),
-    goes_on("a grain that rested has its row", SAVED + call(4, A, "rest"), status(5) + call(6, A, "get"), seen(5, 1, 0, 4) + ok(6, 3)),
-    goes_on("the clock doesn't go back", tick(9), tick(8) + tick(9) + status(1), ['{"text":"not now"}'] + seen(1, 0, 9, 0)),
+    row("the log that the checkpoint replaced is passed over, whatever words it has",
+        {**STALE, "d/log": log_of(words=WORDS._replace(age=1))}, [], [], BEHIND),
 ]
 
 # ---- other words
 
+WAITING = with_option(AT_ONCE)
 BOTH = ["answer", "--data", "d", "--checkpoints", "red:2:4", "blue:1:1"]
 OF_RED = "the data have the tenant red"
 BLUE_ONLY = ["answer", "--data", "d", "--checkpoints", "blue:1:1"]
@@ -173,15 +76,6 @@ def left_out(name: str, lines: list) -> Row:
     return refused(name, after(point(lines, words=BOTH), BOTH), 2, OF_RED, BLUE_ONLY)
 
 
-def changed(checkpoint: str, follows: int, *parts: str) -> str:
-    """A checkpoint that follows another log, with some parts, each followed by what replaces it."""
-    body = checkpoint[:checkpoint.rindex("sum ")]
-    for old, new in ((checkpoint.splitlines()[1], "follows " + spelled(follows).decode()), *zip(parts[::2], parts[1::2])):
-        assert body.count(old + "\n") == 1
-        body = body.replace(old + "\n", new + "\n")
-    return summed(body)
-
-
 TWO_ACTIVE = point(ADD + call(2, SHEET, "list"))
 NARROW = ["answer", "--data", "d", "--checkpoints", "red:1:1"]
 NARROW_POINT = changed(TWO_ACTIVE, of(TWO_ACTIVE), "red 2 4", "red 1 1")
@@ -189,7 +83,6 @@ KEPT_WIDE = ["answer", "--data", "d", "--checkpoints", "red:9:4"]
 LEFT_WAITING = point(SENT, words=WAITING)
 # kept and logged when grains couldn't rest yet
 OLD_WORDS = words_said(KEPT)._replace(kinds=1)
-OLD_POINT = changed(FIRST_POINT, NUMBER, "kinds 2", "kinds 1")
 RESTS = call(2, A, "rest")
 OTHER_WORDS = [
     row("an older version's lines are answered again by that version, and then there is a checkpoint of the newest",
@@ -220,78 +113,8 @@ OTHER_WORDS = [
 
 # ---- what is refused
 
-# the text of checkpoint_rows: a head, lines 1 to 4; two accounts, 5 to 8; three grains, 9 to 12; a journal, 13 to 20; and the sum
-OF_TEXT = ["answer", "--data", "d", "--checkpoints", "--ages", "counter=1000", "red:2:4", "blue:1:1"]
-
-
-def faulty(name: str, number: int, *parts: str, end: str = "") -> Row:
-    """A checkpoint with some parts, each followed by what replaces it, is refused at this line; its sum is right."""
-    body = TEXT.decode()[:TEXT.decode().rindex("sum ")]
-    for old, new in zip(parts[::2], parts[1::2]):
-        assert body.count(old) == 1
-        body = body.replace(old, new)
-    return faulty_text(name, number, summed(body) + end)
-
-
-def faulty_text(name: str, number: int, checkpoint: str) -> Row:
-    """So is one that has this text; the log is the one that it replaced."""
-    before = {"d/checkpoint": checkpoint, "d/log": log_of(words=words_said(OF_TEXT))}
-    return refused(f"a checkpoint: {name}", before, 4, f"checkpoint line {number} is refused", OF_TEXT)
-
-
-ACCOUNT, UP, ROW = "account red 4 1\n", "up counter/red:a 1 5 0 030000000000000003\n", "row counter/red:a 1 030000000000000003\n"
-SEND = "send relay/red:r counter/red:a 020000000367657400\n"
-FAULTY = [
-    faulty_text("of no byte", 1, ""),
-    faulty("of another form", 1, "silo-checkpoint 1", "silo-checkpoint 3"),
-    faulty("that follows no number", 2, "0123456789abcdef", "0123456789abcdeF"),
-    faulty("with a digit too few", 2, "0123456789abcdef", "0123456789abcde"),
-    faulty("a zero before a number", 3, "sends 1000", "sends 01000"),
-    faulty("two spaces", 3, "sends 1000", "sends  1000"),
-    faulty("a clock past its last moment", 4, "clock 7", "clock 9223372036854775808"),
-    faulty("no account", 5, "accounts 2", "accounts 0"),
-    faulty("an account too few", 9, "accounts 2", "accounts 3"),
-    faulty("an account too many", 8, "accounts 2", "accounts 1"),
-    faulty("a tenant that isn't well formed", 6, ACCOUNT, "account Red 4 1\n"),
-    faulty("a request too many", 6, ACCOUNT, "account red 9223372036854775808 1\n"),
-    faulty("a send too few", 8, ACCOUNT, "account red 4 2\n"),
-    faulty("a send too many", 7, ACCOUNT, "account red 4 0\n"),
-    faulty("a send of another tenant's grain", 7, "send relay/red:r", "send relay/blue:r"),
-    faulty("a send to no grain", 7, " counter/red:a 02", " counter/red 02"),
-    faulty("bytes that are no message", 7, "67657400", "67657408"),
-    faulty("a message of the first form", 7, " 020000", " 010000"),
-    faulty("a grain too few", 13, "grains 3", "grains 4"),
-    faulty("a grain too many", 12, "grains 3", "grains 2"),
-    faulty("grains that don't ascend", 11, UP, UP.replace("counter/red:a", "relay/red:r")),
-    faulty("a grain that stands twice", 11, "relay/red:r - 7", "counter/red:a - 7"),
-    faulty("a version past the last", 10, UP, UP.replace(" 1 5", " 18446744073709551616 5")),
-    faulty("bytes that are no state", 10, UP, UP.replace("0003\n", "03\n")),
-    faulty("a journal of another form", 13, "silo-journal 3", "silo-journal 2"),
-    faulty("kinds that aren't known yet", 14, "kinds 2", "kinds 3"),
-    faulty("an age of nothing", 15, "age 900000", "age 0"),
-    faulty("another tenant than that of the account", 18, "tenant blue 1 1", "tenant green 1 1"),
-    faulty("tenants in another order", 17, "tenant red 2 4\ntenant blue 1 1\n", "tenant blue 1 1\ntenant red 2 4\n"),
-    faulty("a tenant too few", 18, "tenant blue 1 1\n", ""),
-    faulty("a tenant too many", 19, "tenant blue 1 1\n", "tenant blue 1 1\ntenant green 1 1\n"),
-    faulty("a tenant that stands twice", 18, "account blue", "account red", "tenant blue", "tenant red"),
-    faulty("limits that nobody may have", 17, "tenant red 2 4", "tenant red 2 0"),
-    faulty("a step", 20, "close 0", "sweep\nclose 1"),
-    faulty("a row that stands twice", 20, ROW, ROW * 2),
-    faulty("a row of no version", 19, ROW, ROW.replace(" 1 ", " 0 ")),
-    faulty("steps that aren't there", 20, "close 0", "close 1"),
-    faulty("a line that no checkpoint has", 21, "close 0\n", "close 0\n\n"),
-    faulty("a line behind the sum", 22, end="x\n"),
-    faulty("bytes behind the sum", 22, end="x"),
-    faulty_text("a wrong sum", 21, TEXT.decode().replace("clock 7", "clock 8")),
-    faulty_text("of which the end is missing", 20, TEXT.decode()[:TEXT.decode().index("close 0")]),
-    faulty_text("without its last byte", 21, TEXT.decode()[:-1]),
-]
-
-KIND_POINT = changed(point(SAVED), NUMBER, UP.replace("1 5", "1 0")[:-1], UP.replace("1 5", "1 0")[:-1].replace("counter", "bell"))
-ROW_POINT = changed(point(SAVED), NUMBER, ROW[:-1], ROW[:-1].replace("counter", "clock"))
-OTHER_LOG = log_of(FIRST, number=1)
 REFUSED = [
-    *FAULTY,
+    *(it.row(f"checkpoint line {it.line} is refused", with_option(OF_TEXT)) for it in FAULTY),
     refused("an active grain of a kind that isn't known", after(KIND_POINT), 4, "the data have the kind bell"),
     refused("a row of one", after(ROW_POINT), 4, "the data have the kind clock"),
     refused("the least of them is told", after(changed(KIND_POINT, NUMBER, ROW[:-1], ROW[:-1].replace("counter", "clock"))), 4,
@@ -347,14 +170,10 @@ LISTED = [
     Row("no tenant", ["rows", "d", "Red"], [], [], 2, "error: no tenant"),
 ]
 
-SWITCHED: list[Row] = [*STARTS, *ACROSS, *OTHER_WORDS, *REFUSED, *LISTED]
+SWITCHED: list[Row] = [*(it._replace(words=with_option(it.words)) for it in OF_BOTH_FORMS), *STARTS, *OTHER_WORDS, *REFUSED, *LISTED]
 
 
 # ---- runs
-
-def lines_text(lines: list) -> bytes:
-    return text(lines).encode()
-
 
 def switches(batches: list, most: int, before: dict) -> list:
     """Whether there is another checkpoint behind each batch, of a silo that runs, and the files at the end of the input."""
@@ -382,8 +201,9 @@ def a_new_folder_has_a_checkpoint_of_its_lines() -> bool:
     run = run_program(KEPT, lines_text(ADD))
     kept = read_checkpoint(run.files["d/checkpoint"])
     number, _end = cut_head(WORDS, run.files["d/log"])
-    return checkpoint_text(kept._replace(follows=NUMBER)).decode() == FIRST_POINT and sorted(run.files) == [
-        "d/checkpoint", "d/lock", "d/log"] and int(number, 16) == sum_of(run.files["d/checkpoint"]) and kept.follows != NUMBER
+    usual = spelled(NUMBER).decode()
+    return checkpoint_text(kept._replace(follows=usual)).decode() == FIRST_POINT and sorted(run.files) == [
+        "d/checkpoint", "d/lock", "d/log"] and number == spelled(sum_of(run.files["d/checkpoint"])) and kept.follows != usual
 
 
 def a_new_folder_that_is_asked_nothing_has_a_log_alone() -> bool:

@@ -8,22 +8,24 @@ and then a new log, without a batch, in the place of the old log. So whatever a 
 - a checkpoint and its log: the lines are answered again from what the checkpoint has;
 - a checkpoint and the log that it replaced: all of the log is in the checkpoint.
 
-Any other log is refused. The program has no checkpoints yet: it takes each folder as one that has none.
+Any other log is refused. Two forms differ in when a checkpoint is made, and in the folders from which a start goes on: `AT_THE_END`, which
+the program has, and `full`, which is to come.
 
-A start has the tenants of its words. With `--operator` these count in a folder without a checkpoint alone: one with a checkpoint has its
-own table, which lines of its operator may have changed, and no start takes back what they did. Callers keep their numbers and receipts
-under all words.
+A start has the tenants of its words. With `--operator` these count in a folder without a checkpoint alone, in both forms: one with a
+checkpoint has its own table, which lines of its operator may have changed, and no start takes back what they did. Callers keep their
+numbers and receipts under all words.
 """
 
 from __future__ import annotations
 
 import re
-from typing import NamedTuple, Optional
+from typing import Callable, Iterable, NamedTuple, Optional
 
-from .checkpoint import Checkpoint, checkpoint_of, checkpoint_text, own_setup, read_checkpoint, reopened, sum_of
+from .checkpoint import LOOSE, STRICT, Checkpoint, Rules, checkpoint_of, own_setup, read_checkpoint, reopened, sum_of
 from .data import Folder
-from .log import DIGITS, OtherWords, Place, Words, cut_head, first_difference, head_text, numbered_head, spelled
-from .logged import Log, LogRefused, answer_again, begin_log, random_number, words_of
+from .journal import MAX_NUMBER
+from .log import DIGITS, OtherWords, Words, cut_head, first_difference, head_with, numbered_head, spelled
+from .logged import Found, Log, LogRefused, answer_again, begin_log, random_number, words_of
 from .silo import Setup, Silo
 
 # bytes of batches up to which a silo that runs goes on with its log
@@ -43,88 +45,74 @@ class HasKind(Exception):
     """A row or an active grain has this kind, which isn't known."""
 
 
-class Found(NamedTuple):
-    """What a folder has."""
+class HasCount(Exception):
+    """More requests of a tenant were accepted than can be counted."""
 
-    # the silo to which the checkpoint leads, and how many bytes that has
-    silo: Silo
-    checkpoint: int
-    # of the log
+
+# ---- what is looked at beside a checkpoint
+
+class Beside(NamedTuple):
+    """A checkpoint, and the log that stands beside it."""
+
+    checkpoint: Checkpoint
+    # those of the checkpoint, and those of the start
+    setup: Setup
     words: Words
-    number: int
-    # none if one is to be begun
+    asked: Words
+    # of the log that goes on from it
+    number: bytes
     log: Optional[bytes]
 
+    def has_own_log(self) -> bool:
+        return self.log.startswith(head_with(self.words, self.number))
 
-class SwitchedLog(Log):
-    """A log that a checkpoint replaces when it is long, and at the end."""
-
-    def __init__(self, folder: Folder, found: Found, place: Place, most: int):
-        super().__init__(folder, place)
-        self.silo, self.words, self.number, self.checkpoint, self.most = found.silo, found.words, found.number, found.checkpoint, most
-        # bytes behind its head
-        self.batches = 0
-
-    def keep(self, lines: list[bytes], text: bytes) -> int:
-        length = super().keep(lines, text)
-        self.batches += length
-        return length
-
-    def told(self) -> None:
-        if self.batches > max(self.checkpoint, self.most):
-            self.switch()
-
-    def end(self) -> None:
-        if self.batches > 0:
-            self.switch()
-
-    def switch(self) -> None:
-        """Has all that the log leads to in a checkpoint, and begins a log that goes on from there."""
-        self.words = words_of(self.silo.setup, self.words.sends)
-        text = checkpoint_text(checkpoint_of(self.silo, self.number, self.words.sends))
-        self.folder.place(text)
-        self.number = sum_of(text)
-        self.place = begin_log(self.folder, self.words, self.number)
-        self.checkpoint, self.batches = len(text), 0
+    def has_replaced_log(self) -> bool:
+        head = numbered_head(self.log)
+        return head is not None and head.number == self.checkpoint.follows.encode()
 
 
-# ---- a start
-
-def found_without(content: Optional[bytes], setup: Setup, sends: int) -> Found:
-    """What a folder without a checkpoint has."""
-    silo, words = Silo(setup), words_of(setup, sends)
-    if content is None:
-        return Found(silo, 0, words, random_number(), None)
-    number, _end = cut_head(words, content)
-    if not IS_NUMBER(number):
+def look_at_words(it: Beside) -> None:
+    asked = it.asked._replace(tenants=it.words.tenants) if it.asked.operator else it.asked
+    if it.words != asked:
         raise OtherWords
-    return Found(silo, 0, words, int(number, 16), content)
 
 
-def found_with(text: bytes, content: Optional[bytes]) -> Found:
-    """What a folder with a checkpoint has. The log is its own, or the one that it replaced, or refused."""
-    checkpoint = read_checkpoint(text)
-    setup = own_setup(checkpoint)
-    look_at_kinds(checkpoint, setup)
-    silo, words, number = reopened(checkpoint, setup), words_of(setup, checkpoint.sends), sum_of(text)
-    if content is None:
+def look_for_log(it: Beside) -> None:
+    if it.log is None:
         raise LogMissing
-    head, wanted = numbered_head(content), head_text(words, number)
-    if head is not None and head.number == spelled(checkpoint.follows):
-        return Found(silo, len(text), words, number, None)
-    if head is not None and head.number != spelled(number):
+
+
+def look_at_head(it: Beside) -> None:
+    """The log has the checkpoint's words. The one that it replaced may have other tenants, if these come and go by lines."""
+    if not (it.words.operator and it.has_replaced_log()):
+        cut_head(it.words, it.log)
+
+
+def look_at_number(it: Beside) -> None:
+    """The log is the checkpoint's own, or the one that it replaced, whatever words that has."""
+    if it.has_own_log() or it.has_replaced_log():
+        return
+    head = numbered_head(it.log)
+    if head is not None and head.number != it.number:
         raise LogRefused(head.line)
-    if not content.startswith(wanted):
-        raise LogRefused(first_difference(content, wanted))
-    return Found(silo, len(text), words, number, content)
+    raise LogRefused(first_difference(it.log, head_with(it.words, it.number)))
 
 
-def look_at_kinds(checkpoint: Checkpoint, setup: Setup) -> None:
-    """The kinds of all rows and active grains are known. The least that isn't is told."""
-    kinds = {at.kind for at, _row in setup.rows} | {it.grain.kind for it in checkpoint.grains}
+def look_at_grains(it: Beside, rows: Iterable = ()) -> None:
+    """The kinds of all active grains are known, and of these rows. The least that isn't is told."""
+    kinds = {at.kind for at, _row in rows} | {kept.grain.kind for kept in it.checkpoint.grains}
     for kind in sorted(kinds):
-        if not setup.logic.knows(kind):
+        if not it.setup.logic.knows(kind):
             raise HasKind(kind)
+
+
+def look_at_kinds(it: Beside) -> None:
+    look_at_grains(it, it.setup.rows)
+
+
+def look_at_counts(it: Beside) -> None:
+    if any(account.count > MAX_NUMBER for account in it.checkpoint.accounts):
+        raise HasCount
 
 
 def look_at_tenants(silo: Silo, setup: Setup) -> None:
@@ -134,29 +122,76 @@ def look_at_tenants(silo: Silo, setup: Setup) -> None:
             raise HasTenant(tenant)
 
 
-def start(folder: Folder, setup: Setup, sends: int, most: int) -> tuple[Silo, SwitchedLog]:
-    """The silo to which the folder leads, under these words, and its log, which has no batch. Nothing changes in a folder that is refused.
+# ---- the two forms
 
-    If the folder has other words, or a line was answered again, that is a switch; `most` is how many bytes of batches a log may have.
+class Form(NamedTuple):
+    """When a checkpoint is made, beside the end of the input, and from which folders a start goes on."""
+
+    # whether a start makes one of lines that were answered again, and may have other words than the folder
+    at_start: bool
+    # bytes of batches up to which a silo that runs makes none; none if it never does
+    most_log: Optional[int]
+    rules: Rules
+    # whether a log may go on from nothing that has this number
+    is_first: Callable[[bytes], object]
+    # one after the other
+    looks: tuple[Callable[[Beside], None], ...]
+
+
+AT_THE_END = Form(False, None, LOOSE, lambda _number: True,
+                  (look_at_words, look_for_log, look_at_head, look_at_number, look_at_grains, look_at_counts))
+
+
+def full(most_log: int) -> Form:
+    return Form(True, most_log, STRICT, IS_NUMBER, (look_at_kinds, look_for_log, look_at_number))
+
+
+# ---- a start
+
+def found_without(content: Optional[bytes], setup: Setup, words: Words, form: Form) -> Found:
+    """What a folder without a checkpoint has."""
+    if content is None:
+        return Found(Silo(setup), 0, words, random_number(), None)
+    number, _end = cut_head(words, content)
+    if not form.is_first(number):
+        raise OtherWords
+    return Found(Silo(setup), 0, words, number, content)
+
+
+def found_with(text: bytes, content: Optional[bytes], words: Words, form: Form) -> Found:
+    """What a folder with a checkpoint has. Of the log that it replaced nothing is answered again."""
+    checkpoint = read_checkpoint(text, form.rules)
+    setup = own_setup(checkpoint)
+    it = Beside(checkpoint, setup, words_of(setup, checkpoint.sends), words, spelled(sum_of(text)), content)
+    for look in form.looks:
+        look(it)
+    return Found(reopened(checkpoint, setup), len(text), it.words, it.number, content if it.has_own_log() else None)
+
+
+def start(folder: Folder, setup: Setup, sends: int, form: Form) -> tuple[Silo, Log]:
+    """The silo to which the folder leads, and its log; what stands behind the log's last batch is cut off. Nothing changes in a folder
+    that is refused.
+
+    In the full form, if the folder has other words, or a line was answered again, there is a new checkpoint, and the log has no batch.
     """
-    content = folder.open()
-    text = folder.checkpoint()
-    found = found_without(content, setup, sends) if text is None else found_with(text, content)
+    words, content = words_of(setup, sends), folder.open()
+    text = folder.own_checkpoint()
+    found = found_without(content, setup, words, form) if text is None else found_with(text, content, words, form)
     again = None if found.log is None else answer_again(found.silo, found.log, found.words)
+    has_lines = again is not None and again.lines > 0
     if setup.operator:
         setup = setup._replace(tenants=found.silo.setup.tenants)
-    look_at_tenants(found.silo, setup)
-    is_left = found.words != words_of(setup, sends) or again is not None and again.lines > 0
-    if again is None:
-        place = begin_log(folder, found.words, found.number)
-    else:
-        place = again.place
-        if not is_left and again.length != len(found.log):
-            folder.keep(again.length)
+        words = words_of(setup, sends)
+    is_left = form.at_start and (found.words != words or has_lines)
+    if form.at_start:
+        look_at_tenants(found.silo, setup)
+    place = begin_log(folder, found.words, found.number) if again is None else again.place
+    if again is not None and not is_left and again.length != len(found.log):
+        folder.keep(again.length)
     if is_left:
-        kept = checkpoint_of(found.silo, found.number, sends)
-        found = found._replace(silo=reopened(kept, setup), words=words_of(setup, sends))
-    log = SwitchedLog(folder, found, place, most)
+        kept = checkpoint_of(found.silo, found.number.decode(), sends)
+        found = found._replace(silo=reopened(kept, setup), words=words)
+    log = Log(folder, found, place, has_lines, form.most_log)
     if is_left:
         log.switch()
     return log.silo, log

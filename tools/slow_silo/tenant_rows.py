@@ -7,13 +7,15 @@ from __future__ import annotations
 
 from typing import Callable, Sequence
 
-from .data_rows import ADD, GET, log_of
+from .data_rows import ADD, GET
+from .end_rows import JOINS, OTHER_WORDS, SENT
+from .folder_texts import after, changed, lines_text, log_of, of, point, words_said
 from .machine import Limits
-from .once_rows import add, last, once, saw
+from .once_rows import add, at_end, last, of_both_forms, once, saw
 from .program import run_program
 from .row import Row
 from .short_lines import A, B, BLUE, BLUE_A, NOT_A_REQUEST, RELAY, SHEET, SWEEP, call, line, no, ok, poke, seen, status, tick, told
-from .switch_rows import JOINS, SENT, after, changed, lines_text, of, point, refused, row, words_said
+from .switch_rows import refused, row
 from .tenants import done
 
 OPEN = ["answer", "--data", "d", "--checkpoints", "--replies", "9", "--operator", "red:2:4"]
@@ -121,25 +123,34 @@ def goes_on(name: str, words: Sequence[str], lines: list, out: list, then: str, 
 
 
 CLOSING = tenant("grey", 1, 1) + drop("grey")
-STARTS = [
+ROWS_OF_BOTH = [
     row("tenants that came are in the checkpoint", {"d/log": BEGUN}, CAME, CAME_TOLD, after(LEFT, WIDE), OPEN),
     row("their lines are in the log", {"d/log": log_of((CAME, CAME_TOLD), words=words_said(OPEN))}, [], [], after(LEFT, WIDE), OPEN),
-    row("also where there are no checkpoints", {"d/log": log_of((CAME, CAME_TOLD), words=words_said(OPEN))}, BLUE_GET, ok(1, 0, BLUE),
-        {"d/log": log_of((CAME, CAME_TOLD), (BLUE_GET, ok(1, 0, BLUE)), words=words_said(OPEN))},
-        [word for word in OPEN if word != "--checkpoints"]),
+    row("the log that the checkpoint replaced is passed over, whatever tenants it has",
+        {"d/checkpoint": LEFT, "d/log": log_of((CAME, CAME_TOLD), words=words_said(OPEN))}, [], [], after(LEFT, WIDE), OPEN),
     goes_on("a start goes on with them, whatever tenants its words have", OPEN, [], [], LEFT, WIDE),
     goes_on("tenants that its words alone have aren't known", [*OPEN, "green:1:1"], status(1, "green/c"),
             no(1, 21, "tenant green is unknown", "green/c"), changed(LEFT, of(LEFT)), WIDE),
     goes_on("one that was closed is gone", OPEN, CLOSING, had("grey") + had("grey", 1, 1), changed(LEFT, of(LEFT)), WIDE),
+    refused("a log without a checkpoint has the words' tenants", {"d/log": BEGUN}, 2, OTHER_WORDS, BOTH),
+    refused("a log whose line is answered otherwise", {"d/log": log_of((CAME, had("blue") * 2), words=words_said(OPEN))}, 4,
+            "log line 13 is answered otherwise", OPEN),
+]
+STARTS = [
     goes_on("without the option its words' tenants count", BACK, [], [],
             changed(LEFT, of(LEFT), "operator 1", "operator 0", "tenant red 3 4", "tenant red 2 4"), BACK),
     refused("and leave out none of which something is kept", after(LEFT, WIDE), 2, "the data have the tenant blue", CLOSED),
     row("a folder of before has its own tenants, too", after(point(ADD + BLUE_GET, words=BACK), BACK), [], [],
         after(changed(point(ADD + BLUE_GET, words=BACK), of(point(ADD + BLUE_GET, words=BACK)), "operator 0", "operator 1"),
               [*OPEN, "blue:1:1"]), [*OPEN, "grey:1:1"]),
-    refused("a log without a checkpoint has the words' tenants", {"d/log": BEGUN}, 2, "the data have other words", BOTH),
-    refused("a log whose line is answered otherwise", {"d/log": log_of((CAME, had("blue") * 2), words=words_said(OPEN))}, 4,
-            "log line 13 is answered otherwise", OPEN),
+    row("with a checkpoint at the end alone, it has what was answered again and what was asked",
+        {"d/log": log_of((CAME, CAME_TOLD), words=words_said(OPEN))}, BLUE_GET, ok(1, 0, BLUE),
+        after(point(BLUE_GET * 2, words=WIDE), WIDE), at_end(OPEN)),
+    refused("without the option its words are others then", after(LEFT, WIDE), 2, OTHER_WORDS, at_end(BACK)),
+    refused("so are those of a folder of before", after(point(ADD, words=CLOSED), CLOSED), 2, OTHER_WORDS, at_end(OPEN)),
+    refused("and other ages, whatever tenants they have", after(LEFT, WIDE), 2, OTHER_WORDS, [*at_end(OPEN), "--age", "5"]),
+    refused("a log of the checkpoint's number with other tenants",
+            {"d/checkpoint": LEFT, "d/log": log_of(words=words_said(OPEN), number=of(LEFT))}, 2, OTHER_WORDS, at_end(OPEN)),
 ]
 
 # ---- bytes
@@ -215,10 +226,14 @@ SENT_WORDS = bounded(RELAY_BYTES, "--checkpoints", "--sends", "0", "red:9:4")
 SENT_NARROW = bounded(9, "--checkpoints", "--sends", "1", "red:9:4")
 SENT_POINT = point(SENT, words=SENT_WORDS)
 NARROWED = changed(KEPT_POINT, of(KEPT_POINT), f"bytes {SHEET_BYTES}", "bytes 9")
-ROOM_STARTS = [
+ROOM_OF_BOTH = [
     row("what was no room is none again",
         {"d/log": log_of((PUT * 2 + ADD, ok(1, None) * 2 + no(1, 57, FULL)), words=words_said(KEPT_WORDS))}, [], [],
         after(point(PUT * 2, words=KEPT_WORDS), KEPT_WORDS), KEPT_WORDS),
+    row("a start goes on with as much", after(KEPT_POINT, KEPT_WORDS), put(3, "xxx"), no(3, 57, FULL),
+        after(changed(KEPT_POINT, of(KEPT_POINT), "account red 1 0 0", "account red 2 0 0"), KEPT_WORDS), KEPT_WORDS),
+]
+ROOM_STARTS = [
     row("who has more than the words allow may read, save and have less", after(KEPT_POINT, KEPT_WORDS),
         call(2, SHEET, "save") + put(3, "xxx") + put(4, "x"),
         ok(2, "1") + no(3, 57, FULL) + ok(4, None),
@@ -232,9 +247,12 @@ ROOM_STARTS = [
     row("without the option nothing is counted", after(KEPT_POINT, KEPT_WORDS), ADD, ok(1, 3),
         after(point(PUT + ADD, of(changed(point(PUT, words=["answer", "red:9:4"]), of(KEPT_POINT))), ["answer", "red:9:4"]),
               ["answer", "red:9:4"]), ["answer", "--data", "d", "--checkpoints", "red:9:4"]),
+    refused("with a checkpoint at the end alone, other bytes are other words", after(KEPT_POINT, KEPT_WORDS), 2, OTHER_WORDS,
+            at_end(NARROW)),
 ]
 
-TENANT_ROWS: list[Row] = [*COMING, *KEEPING, *FORMS, *STARTS, *ROOM, *ROOM_STARTS]
+TENANT_ROWS: list[Row] = [*COMING, *KEEPING, *FORMS, *of_both_forms(ROWS_OF_BOTH), *STARTS, *ROOM, *of_both_forms(ROOM_OF_BOTH),
+                          *ROOM_STARTS]
 
 
 def there_are_no_more_than_a_thousand_tenants() -> bool:

@@ -48,7 +48,7 @@ def refused(tenant: str, code: int, *names: object) -> str:
 def put_under(silo: Silo, table: dict[str, Limits]) -> None:
     """The silo is from now on what it is reopened as under this table."""
     setup = silo.setup._replace(tenants=tuple(table.items()))
-    silo.__dict__ = reopened(checkpoint_of(silo, 0, 0), setup).__dict__
+    silo.__dict__ = reopened(checkpoint_of(silo, "", 0), setup).__dict__
 
 
 def set_tenant(silo: Silo, said: SetTenant) -> str:

@@ -20,7 +20,7 @@ F_SETPIPE_SZ = 1031
 BYTES_OF_WIDE_PIPE = 1_048_576
 # what asyncio reads at once, in place of 256 KiB, for which memory is mapped anew at each read
 BYTES_OF_READ = 65_536
-# how long a process that has closed its output may take to end: it writes the journal before
+# how long a process that has closed its output may take to end: it writes the journal or the checkpoint before
 MOST_SECONDS_TO_END = 60.0
 
 

@@ -1,2 +1,5 @@
 pub mod Starts
+pub mod Replaced
+pub mod Standing
+pub mod Beginnings
 pub mod Runs

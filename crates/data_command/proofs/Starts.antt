@@ -22,7 +22,7 @@ use Rattle.log_text.proofs.Marks.{length-spelled}
 use Rattle.log_text.proofs.Spelled.{spells_plain}
 use Rattle.log_text.proofs.Stands.{read_stands}
 use Rattle.log_host.specs.Acts.{Act}
-use Rattle.log_host.specs.Files.{Begins, Cuts, Finds, IsAt, MayBegin, MayCut}
+use Rattle.log_host.specs.Files.{Begins, Cuts, IsAt, MayBegin, MayCut}
 use Rattle.log_host.specs.Lasting.{Lasts}
 use Rattle.log_host.specs.Laws.{restarted}
 use Rattle.log_host.specs.declared.place.LogPlace.{LogPlace}
@@ -39,8 +39,9 @@ use Rattle.log_answer.proofs.Left.{left_self}
 use Rattle.log_answer.proofs.Lives.{starts_go_on}
 use Rattle.command_parts.specs.Kept.{opened}
 use Rattle.command_parts.specs.Setups.{Start}
-use Rattle.data_command.specs.Data.{DataLasts, HasBehind, IsCut, LastsOn, LogView, MayCutLog, StartFailsBy, data_log, kept_bytes, place_of, since}
+use Rattle.data_command.specs.Data.{DataLasts, HasBehind, LastsOn, LogView, StartFailsBy, data_log, kept_bytes, place_of, since}
 use Rattle.data_command.specs.declared.fault.DataFault.{DataFault}
+use Rattle.data_command.specs.declared.starting.StartedLog.{StartedLog}
 use Rattle.data_command.specs.Words.{head_words}
 use Rattle.data_command.specs.inside.Starts.{IsStarted, again_fault}
 
@@ -117,18 +118,14 @@ module _ (start : Start) (sends : ℕ) where
 
   -- ---- a log that was found
 
-  module _ (old mid : LogView) (number bytes : List ℕ) (numbered : IsNumber number) (finds : Finds old.acts old.begun mid.acts mid.begun (Some (head_text (head_words start sends) number ++ bytes))) where
-    -- what was found
-    found_there : old.acts ≡ Some [] → mid.begun ≡ Some (head_text (head_words start sends) number ++ bytes)
-    found_there e = (finds e).0.1 ∙ sym (finds e).1
-
+  module _ (old : LogView) (number bytes : List ℕ) (numbered : IsNumber number) (there : old.acts ≡ Some [] → old.begun ≡ Some (head_text (head_words start sends) number ++ bytes)) where
     behind_there : old.acts ≡ Some [] → HasBehind (head_words start sends) number old.begun bytes
-    behind_there e = subst (λ (o : Option (List ℕ)). HasBehind (head_words start sends) number o bytes) (finds e).1 refl
+    behind_there e = subst (λ (o : Option (List ℕ)). HasBehind (head_words start sends) number o bytes) (sym (there e)) refl
 
     -- it is cut
-    pub cut_fresh : (new : LogView) (k : ℕ) → (mid.begun ≡ Some (head_text (head_words start sends) number ++ bytes) → Cuts mid.acts mid.begun new.acts new.begun k)
+    pub cut_fresh : (new : LogView) (k : ℕ) → (old.begun ≡ Some (head_text (head_words start sends) number ++ bytes) → Cuts old.acts old.begun new.acts new.begun k)
         → old.acts ≡ Some [] → new.acts ≡ Some []
-    cut_fresh new k cuts e = (cuts (found_there e) _ (finds e).0.0 (found_there e)).0
+    cut_fresh new k cuts e = (cuts (there e) _ e (there e)).0
 
     -- to the batches that were read
     kept_there : kept_bytes start sends number bytes ++ left_in own_sums (name_of number) (first_sum (head_words start sends) number) bytes ≡ bytes
@@ -141,41 +138,34 @@ module _ (start : Start) (sends : ℕ) where
         ∙ ap (λ (bs : List ℕ). Some bs) (take_kept (head_text (head_words start sends) number) (kept_bytes start sends number bytes) _ bytes kept_there)
 
     pub cut_kept : (new : LogView) (k : ℕ) → k ≡ length (head_text (head_words start sends) number) + length (kept_bytes start sends number bytes)
-        → (mid.begun ≡ Some (head_text (head_words start sends) number ++ bytes) → Cuts mid.acts mid.begun new.acts new.begun k)
+        → (old.begun ≡ Some (head_text (head_words start sends) number ++ bytes) → Cuts old.acts old.begun new.acts new.begun k)
         → old.acts ≡ Some [] → new.begun ≡ Some (head_text (head_words start sends) number ++ kept_bytes start sends number bytes)
-    cut_kept new k is cuts e = (cuts (found_there e) _ (finds e).0.0 (found_there e)).1 ∙ cut_to k is
+    cut_kept new k is cuts e = (cuts (there e) _ e (there e)).1 ∙ cut_to k is
+
+    -- the log stands behind its batches
+    pub stands_cut : (new : LogView) → new.begun ≡ Some (head_text (head_words start sends) number ++ kept_bytes start sends number bytes) → new.acts ≡ Some [] → new.past ≡ old.past
+        → old.acts ≡ Some [] → LastsOn start sends (since old new)
+    stands_cut new begun fresh past e = record {
+      number = number;
+      bytes = bytes;
+      numbered = numbered;
+      behind = behind_there e;
+      off = left_in own_sums (name_of number) (first_sum (head_words start sends) number) bytes;
+      parts = kept_there;
+      acts = [];
+      always = lasts_there number bytes numbered;
+      stands = inl (record { begun = begun; acts_are = fresh }, past);
+    }
 
     -- or it failed
-    pub may_be_cut : (new : LogView) (k : ℕ) → k ≡ length (head_text (head_words start sends) number) + length (kept_bytes start sends number bytes)
-        → MayCut mid.acts mid.begun new.acts new.begun k → MayCutLog start sends (since old new)
-    may_be_cut new k is may e = by (may _ (finds e).0.0 (found_there e))
+    pub cut_lasts : (new : LogView) (k : ℕ) → k ≡ length (head_text (head_words start sends) number) + length (kept_bytes start sends number bytes) → new.past ≡ old.past
+        → MayCut old.acts old.begun new.acts new.begun k → DataLasts start sends (since old new)
+    cut_lasts new k is past may e = by (may _ e (there e))
       where
-        by : IsAt new.acts new.begun mid.begun ⊎ IsAt new.acts new.begun (Some (take k (head_text (head_words start sends) number ++ bytes))) → (new.begun ≡ old.begun) ⊎ IsCut start sends (since old new)
-        by (inl at) = inl (at.1 ∙ (finds e).0.1)
-        by (inr at) = inr (record {
-          number = number;
-          bytes = bytes;
-          numbered = numbered;
-          behind = behind_there e;
-          off = left_in own_sums (name_of number) (first_sum (head_words start sends) number) bytes;
-          parts = kept_there;
-          begun = at.1 ∙ cut_to k is;
-        })
-
-    pub cut_lasts : (new : LogView) (k : ℕ) → MayCut mid.acts mid.begun new.acts new.begun k → DataLasts start sends (since old new)
-    cut_lasts new k may e = by (may _ (finds e).0.0 (found_there e))
-      where
-        by : IsAt new.acts new.begun mid.begun ⊎ IsAt new.acts new.begun (Some (take k (head_text (head_words start sends) number ++ bytes))) → IsAt new.acts new.begun old.begun ⊎ LastsOn start sends (since old new)
-        by (inl at) = inl (at.0, at.1 ∙ (finds e).0.1)
-        by (inr at) = inr (record {
-          number = number;
-          bytes = bytes;
-          numbered = numbered;
-          behind = behind_there e;
-          acts = [];
-          are = at.0;
-          always = lasts_there number bytes numbered;
-        })
+        by : IsAt new.acts new.begun old.begun ⊎ IsAt new.acts new.begun (Some (take k (head_text (head_words start sends) number ++ bytes)))
+            → (IsAt new.acts new.begun old.begun × (new.past ≡ old.past)) ⊎ LastsOn start sends (since old new)
+        by (inl at) = inl (at, past)
+        by (inr at) = inr (stands_cut new (at.1 ∙ cut_to k is) at.0 past e)
 
     -- so many bytes they are
     pub kept_sized : (head : List ℕ) (again : Again) (place : LogPlace) → head ≡ head_text (head_words start sends) number → place ≡ place_of (head_words start sends) number
@@ -186,124 +176,127 @@ module _ (start : Start) (sends : ℕ) where
         λ i. length (there i) + sized i
 
     -- the silo answered its lines again
-    pub started_again : (keeps : Bool) (new : LogView) (silo then : History) (again : Again) (place : LogPlace) → silo.setup ≡ start.setup → silo.whole ≡ opening start.setup → place ≡ place_of (head_words start sends) number
-        → AgainOn keeps start.version.logic sends place bytes silo then again → (old.acts ≡ Some [] → new.acts ≡ Some [])
-        → (old.acts ≡ Some [] → new.begun ≡ Some (head_text (head_words start sends) number ++ (restarted (data_log start sends number) bytes).file)) → IsStarted keeps start sends (since old new) again.place then
-    started_again keeps new silo then again place same there is done fresh kept =
-        let on = subst (λ (p : LogPlace). AgainOn keeps start.version.logic sends p bytes silo then again) is done in
+    pub started_again : (keeps : Bool) (new : LogView) (silo after : History) (again : Again) (place : LogPlace) (begun : StartedLog) → silo.setup ≡ start.setup → silo.whole ≡ opening start.setup
+        → place ≡ place_of (head_words start sends) number → begun.place ≡ again.place → begun.number ≡ number
+        → AgainOn keeps start.version.logic sends place bytes silo after again → (old.acts ≡ Some [] → new.acts ≡ Some [])
+        → (old.acts ≡ Some [] → new.begun ≡ Some (head_text (head_words start sends) number ++ kept_bytes start sends number bytes)) → new.past ≡ old.past
+        → IsStarted keeps start sends (since old new) begun after
+    started_again keeps new silo after again place begun same opens is at digits done fresh kept past =
+        let on = subst (λ (p : LogPlace). AgainOn keeps start.version.logic sends p bytes silo after again) is done in
         let d = on.answers in
         record {
-          found = Some (head_text (head_words start sends) number ++ bytes);
-          was = λ e. (finds e).1;
-          all = on.all;
-          has = on.left;
-          starts = record {
-            number = number;
-            bytes = bytes;
-            numbered = numbered;
-            behind = refl;
-            leads = led_from start.version.logic sends silo (opened start.setup) on.all _ same there (subst (λ (bs : List Batch). IsLed start.version.logic sends silo (lines_of bs) on.all) d.read d.leads);
+          was = record {
+            found = Some (head_text (head_words start sends) number ++ bytes);
+            was = λ e. sym (there e);
+            all = on.all;
+            has = on.left;
+            starts = record {
+              number = number;
+              bytes = bytes;
+              numbered = numbered;
+              behind = refl;
+              leads = led_from start.version.logic sends silo (opened start.setup) on.all _ same opens (subst (λ (bs : List Batch). IsLed start.version.logic sends silo (lines_of bs) on.all) d.read d.leads);
+            };
           };
-          named = d.name;
-          goes_on = subst (λ (w : Whole). GoesOn start.version.logic sends w (first_sum (head_words start sends) number) again.place
-              (restarted (silo_log start.version.logic sends w (name_of number) (first_sum (head_words start sends) number)) bytes) then.whole) there
-              (starts_go_on keeps start.version.logic sends (place_of (head_words start sends) number) bytes silo then again (plain_name number numbered) on);
+          number = sym digits;
+          named = ap (λ (p : LogPlace). p.name) at ∙ d.name;
+          goes_on = subst (λ (p : LogPlace). GoesOn start.version.logic sends (opening start.setup) (first_sum (head_words start sends) number) p (restarted (data_log start sends number) bytes) after.whole) (sym at)
+              (subst (λ (w : Whole). GoesOn start.version.logic sends w (first_sum (head_words start sends) number) again.place
+              (restarted (silo_log start.version.logic sends w (name_of number) (first_sum (head_words start sends) number)) bytes) after.whole) opens
+              (starts_go_on keeps start.version.logic sends (place_of (head_words start sends) number) bytes silo after again (plain_name number numbered) on));
           fresh = fresh;
           kept = kept;
+          past = past;
         }
 
     -- or it didn't
-    pub not_again : (failed : Bool) (silo : History) (place : LogPlace) (why : AgainFault) (told : DataFault) → silo.whole ≡ opening start.setup → place ≡ place_of (head_words start sends) number
+    pub not_again : (silo : History) (place : LogPlace) (why : AgainFault) (told : DataFault) → silo.whole ≡ opening start.setup → place ≡ place_of (head_words start sends) number
         → StopsAgain start.version.logic sends place bytes silo.whole why → told ≡ again_fault (length (whole_lines (head_text (head_words start sends) number))) why
-        → StartFailsBy start sends (since old (record { begun = mid.begun; acts = mid.acts; failed = failed })) told
-    not_again failed silo place again_why.Memory told there is stops told_is = subst (λ (f : DataFault). StartFailsBy start sends (since old (record { begun = mid.begun; acts = mid.acts; failed = failed })) f) (sym told_is) tt
-    not_again failed silo place (again_why.Refused before) told there is stops told_is =
-        subst (λ (f : DataFault). StartFailsBy start sends (since old (record { begun = mid.begun; acts = mid.acts; failed = failed })) f) (sym told_is) (
-          (λ e. (finds e).0),
+        → StartFailsBy start sends (since old old) told
+    not_again silo place again_why.Memory told opens is stops told_is = subst (λ (f : DataFault). StartFailsBy start sends (since old old) f) (sym told_is) tt
+    not_again silo place (again_why.Refused before) told opens is stops told_is =
+        subst (λ (f : DataFault). StartFailsBy start sends (since old old) f) (sym told_is) (
+          (λ e. ((e, refl), refl)),
           inr (record {
             number = number;
             bytes = bytes;
             numbered = numbered;
-            was = λ e. (finds e).1;
+            was = λ e. sym (there e);
             before = before;
-            refused = subst (λ (w : Whole). IsRefused start.version.logic sends (place_of (head_words start sends) number) bytes w before) there (subst (λ (p : LogPlace). IsRefused start.version.logic sends p bytes silo.whole before) is stops);
+            refused = subst (λ (w : Whole). IsRefused start.version.logic sends (place_of (head_words start sends) number) bytes w before) opens (subst (λ (p : LogPlace). IsRefused start.version.logic sends p bytes silo.whole before) is stops);
             line_is = refl;
           }),
         )
-    not_again failed silo place (again_why.Otherwise before) told there is stops told_is =
-        subst (λ (f : DataFault). StartFailsBy start sends (since old (record { begun = mid.begun; acts = mid.acts; failed = failed })) f) (sym told_is) (
-          (λ e. (finds e).0),
+    not_again silo place (again_why.Otherwise before) told opens is stops told_is =
+        subst (λ (f : DataFault). StartFailsBy start sends (since old old) f) (sym told_is) (
+          (λ e. ((e, refl), refl)),
           record {
             number = number;
             bytes = bytes;
             numbered = numbered;
-            was = λ e. (finds e).1;
+            was = λ e. sym (there e);
             before = before;
-            otherwise = subst (λ (w : Whole). TellsOtherwise start.version.logic sends (place_of (head_words start sends) number) bytes w before) there (subst (λ (p : LogPlace). TellsOtherwise start.version.logic sends p bytes silo.whole before) is stops);
+            otherwise = subst (λ (w : Whole). TellsOtherwise start.version.logic sends (place_of (head_words start sends) number) bytes w before) opens (subst (λ (p : LogPlace). TellsOtherwise start.version.logic sends p bytes silo.whole before) is stops);
             line_is = refl;
           },
         )
 
   -- ---- there was none
 
-  module _ (old mid new : LogView) (n : ℕ) (finds : Finds old.acts old.begun mid.acts mid.begun None) where
+  module _ (old new : LogView) (n : ℕ) (none : old.acts ≡ Some [] → old.begun ≡ None) (past : new.past ≡ old.past) where
+    kept_none : ◌≡◌ {A = Option (List ℕ)} (Some (head_text (head_words start sends) (spelled n))) (Some (head_text (head_words start sends) (spelled n) ++ kept_bytes start sends (spelled n) []))
+    kept_none = ap (λ (bs : List ℕ). Some bs) (sym (append-nil (head_text (head_words start sends) (spelled n))))
+
     -- the new one is settled
-    pub begun_started : (keeps : Bool) (silo : History) (place : LogPlace) → silo.setup ≡ start.setup → silo.whole ≡ opening start.setup → AllIdle silo.whole.entries → place ≡ place_of (head_words start sends) (spelled n)
-        → Begins mid.acts new.acts new.begun (head_text (head_words start sends) (spelled n)) → IsStarted keeps start sends (since old new) place silo
-    begun_started keeps silo place same there idle is begins = subst (λ (p : LogPlace). IsStarted keeps start sends (since old new) p silo) (sym is) (record {
-      found = None;
-      was = λ e. (finds e).1;
-      all = silo;
-      has = left_self keeps silo;
-      starts = record {
-        number = spelled n;
-        bytes = [];
-        numbered = spelled_number n;
-        behind = refl;
-        leads = record { setup = same; whole = there; idle = idle; own = λ tenant. ap (λ (w : Whole). shown_to tenant w) there };
+    pub begun_started : (keeps : Bool) (silo : History) (begun : StartedLog) → silo.setup ≡ start.setup → silo.whole ≡ opening start.setup → AllIdle silo.whole.entries
+        → begun.place ≡ place_of (head_words start sends) (spelled n) → begun.number ≡ spelled n
+        → Begins old.acts new.acts new.begun (head_text (head_words start sends) (spelled n)) → IsStarted keeps start sends (since old new) begun silo
+    begun_started keeps silo begun same there idle is digits begins = record {
+      was = record {
+        found = None;
+        was = λ e. sym (none e);
+        all = silo;
+        has = left_self keeps silo;
+        starts = record {
+          number = spelled n;
+          bytes = [];
+          numbered = spelled_number n;
+          behind = refl;
+          leads = record { setup = same; whole = there; idle = idle; own = λ tenant. ap (λ (w : Whole). shown_to tenant w) there };
+        };
       };
-      named = refl;
-      goes_on = record {
+      number = sym digits;
+      named = ap (λ (p : LogPlace). p.name) is;
+      goes_on = subst (λ (p : LogPlace). GoesOn start.version.logic sends (opening start.setup) (first_sum (head_words start sends) (spelled n)) p (restarted (data_log start sends (spelled n)) []) silo.whole) (sym is) (record {
         plain = plain_name (spelled n) (spelled_number n);
         settled = starts_settled (data_log start sends (spelled n)) [] (plain_name (spelled n) (spelled_number n));
         leads = ap untold there;
-      };
-      fresh = λ e. (begins (finds e).0.0).0;
-      kept = λ e. (begins (finds e).0.0).1 ∙ ap (λ (bs : List ℕ). Some bs) (sym (append-nil (head_text (head_words start sends) (spelled n))));
-    })
+      });
+      fresh = λ e. (begins e).0;
+      kept = λ e. (begins e).1 ∙ kept_none;
+      past = past;
+    }
 
     -- or it isn't made whole
     behind_none : old.begun ≡ None → HasBehind (head_words start sends) (spelled n) old.begun []
     behind_none is = subst (λ (o : Option (List ℕ)). HasBehind (head_words start sends) (spelled n) o []) (sym is) refl
 
-    pub may_be_begun : MayBegin mid.acts mid.begun new.acts new.begun (head_text (head_words start sends) (spelled n)) → MayCutLog start sends (since old new)
-    may_be_begun may e = by (may (finds e).0.0)
+    pub begun_lasts : MayBegin old.acts old.begun new.acts new.begun (head_text (head_words start sends) (spelled n)) → DataLasts start sends (since old new)
+    begun_lasts may e = by (may e)
       where
-        by : IsAt new.acts new.begun mid.begun ⊎ IsAt new.acts new.begun (Some (head_text (head_words start sends) (spelled n))) → (new.begun ≡ old.begun) ⊎ IsCut start sends (since old new)
-        by (inl at) = inl (at.1 ∙ (finds e).0.1)
+        by : IsAt new.acts new.begun old.begun ⊎ IsAt new.acts new.begun (Some (head_text (head_words start sends) (spelled n)))
+            → (IsAt new.acts new.begun old.begun × (new.past ≡ old.past)) ⊎ LastsOn start sends (since old new)
+        by (inl at) = inl (at, past)
         by (inr at) = inr (record {
           number = spelled n;
           bytes = [];
           numbered = spelled_number n;
-          behind = behind_none (sym (finds e).1);
+          behind = behind_none (none e);
           off = [];
           parts = refl;
-          begun = at.1 ∙ ap (λ (bs : List ℕ). Some bs) (sym (append-nil (head_text (head_words start sends) (spelled n))));
-        })
-
-    pub begun_lasts : MayBegin mid.acts mid.begun new.acts new.begun (head_text (head_words start sends) (spelled n)) → DataLasts start sends (since old new)
-    begun_lasts may e = by (may (finds e).0.0)
-      where
-        by : IsAt new.acts new.begun mid.begun ⊎ IsAt new.acts new.begun (Some (head_text (head_words start sends) (spelled n))) → IsAt new.acts new.begun old.begun ⊎ LastsOn start sends (since old new)
-        by (inl at) = inl (at.0, at.1 ∙ (finds e).0.1)
-        by (inr at) = inr (record {
-          number = spelled n;
-          bytes = [];
-          numbered = spelled_number n;
-          behind = behind_none (sym (finds e).1);
           acts = [];
-          are = at.0;
           always = lasts_there (spelled n) [] (spelled_number n);
+          stands = inl (record { begun = at.1 ∙ kept_none; acts_are = at.0 }, past);
         })
 
 -- ---- what a caller knows

@@ -1,23 +1,27 @@
 -- What is made of a folder of data, and what is answered then.
-use Rattle.std.specs.Prelude.{◌≡◌, ◌⊎◌, ◌++◌, ℕ, ◌+◌, Bool, true, List, [], length, Option, None, Some, IfSome}
-use Rattle.silo_model.specs.Opening.{opening}
+use Rattle.std.specs.Prelude.{◌≡◌, ◌≢◌, ◌⊎◌, ◌++◌, ℕ, ◌+◌, Bool, true, List, [], length, Option, None, Some, IfSome}
+use Rattle.silo_model.specs.Opening.{Setup, opening}
+use Rattle.silo_model.specs.Segments.{untold}
+use Rattle.silo_model.specs.Whole.{Whole}
 use Rattle.silo_core.specs.History.{History}
 use Rattle.line_protocol.specs.Lines.{lines_of}
 use Rattle.line_protocol.specs.Reading.{Reading}
 use Rattle.log_text.specs.Lines.{whole_lines}
 use Rattle.log_text.specs.Head.{IsNumber, first_sum, form_line, head_text, name_of}
-use Rattle.log_host.specs.Acts.{Act, Always}
-use Rattle.log_host.specs.Files.{IsAt}
-use Rattle.log_host.specs.Lasting.{Lasts, Log, lines_in}
+use Rattle.log_text.specs.Sums.{spelled}
+use Rattle.log_host.specs.Acts.{Act, Always, Held, held_from}
+use Rattle.log_host.specs.Files.{IsAt, Past, with_log, with_point}
+use Rattle.log_host.specs.Lasting.{IsSettled, Lasts, Log, lines_in}
 use Rattle.log_host.specs.Laws.{restarted}
 use Rattle.log_host.specs.declared.place.LogPlace.{LogPlace}
-use Rattle.log_answer.specs.Answers.{IsLed, silo_log}
+use Rattle.log_answer.specs.Answers.{IsLed, led, silo_log}
 use Rattle.log_answer.specs.Runs.{AnswersLogged, KeepsLines, StopsLogged}
 use Rattle.log_answer.specs.Starts.{IsRefused, TellsOtherwise}
 use Rattle.log_answer.specs.declared.running.LogFault.{LogFault}
 use Rattle.log_answer.specs.declared.running.LogFault.TheVariants as log_fault
+use Rattle.silo_checkpoint.specs.Saved.{HasText, sum_in}
 use Rattle.command_parts.specs.Kept.{opened}
-use Rattle.command_parts.specs.Setups.{Start}
+use Rattle.command_parts.specs.Setups.{Start, started}
 use Rattle.command_parts.specs.Streams.{IsUnbegun}
 use Rattle.command_parts.specs.declared.failure.Cause.TheVariants as cause
 use Rattle.data_command.specs.Words.{head_words}
@@ -26,10 +30,12 @@ use Rattle.data_command.specs.declared.fault.DataFault.TheVariants as data_fault
 
 -- ---- what is known of the host's log
 
--- Its bytes when it was opened, begun or cut last, if it was there; what was done to it since; and whether a call failed.
+-- Its bytes when it was opened, begun or cut last, if it was there; what was done to it since; the checkpoint, and the logs that were
+-- replaced; and whether a call failed.
 pub record LogView : Type 0 where
   pub begun : Option (List ℕ)
   pub acts : Option (List Act)
+  pub past : Past
   pub failed : Bool
 
 -- The same before a run and after it.
@@ -38,9 +44,9 @@ pub record LogClaims : Type 0 where
   pub new : LogView
 
 -- by what a host claims
-module _ {F : Type 0} (begun : F → Option (List ℕ)) (acts : F → Option (List Act)) (failed : F → Bool) where
+module _ {F : Type 0} (begun : F → Option (List ℕ)) (acts : F → Option (List Act)) (past : F → Past) (failed : F → Bool) where
   abbrev pub log_view : F → LogView
-  log_view files = record { begun = begun files; acts = acts files; failed = failed files }
+  log_view files = record { begun = begun files; acts = acts files; past = past files; failed = failed files }
 
   abbrev pub log_claims : F → F → LogClaims
   log_claims old new = record { old = log_view old; new = log_view new }
@@ -49,13 +55,17 @@ module _ {F : Type 0} (begun : F → Option (List ℕ)) (acts : F → Option (Li
 abbrev pub since : LogView → LogView → LogClaims
 since old new = record { old = old; new = new }
 
--- Nothing was done to a log that nothing had been done to.
+-- Nothing was done to a log that nothing had been done to, nor to the checkpoint.
 abbrev pub LeavesLog : LogClaims → Type 0
-LeavesLog log = log.old.acts ≡ Some [] → IsAt log.new.acts log.new.begun log.old.begun
+LeavesLog log = log.old.acts ≡ Some [] → IsAt log.new.acts log.new.begun log.old.begun × (log.new.past ≡ log.old.past)
 
 -- These bytes were found as the log, or none: those that it had, as far as they are known.
 abbrev pub IsFound : LogClaims → Option (List ℕ) → Type 0
 IsFound log found = log.old.acts ≡ Some [] → found ≡ log.old.begun
+
+-- These were found as the checkpoint, or none.
+abbrev pub IsFoundPoint : LogClaims → Option (List ℕ) → Type 0
+IsFoundPoint log point = log.old.acts ≡ Some [] → point ≡ log.old.past.point
 
 -- ---- a log
 
@@ -82,6 +92,15 @@ module _ (start : Start) (sends : ℕ) where
   abbrev pub kept_bytes : List ℕ → List ℕ → List ℕ
   kept_bytes number bytes = (restarted (data_log number) bytes).file
 
+  -- what the log of that number holds behind its head if these bytes were found there, and these acts were done since
+  abbrev pub acted : List ℕ → List ℕ → List Act → Held
+  acted number bytes acts = held_from (restarted (data_log number) bytes) acts
+
+  -- where all of its lines lead then
+  abbrev pub led_by : List ℕ → List ℕ → List Act → Whole
+  led_by number bytes acts =
+      led start.version.logic sends (opening start.setup) (lines_in (data_log number) (acted number bytes acts).file)
+
   -- The silo is where the lines lead that were found: those of the log's whole batches. Of a new log there are none.
   pub record StartsFrom (found : Option (List ℕ)) (silo : History) : Type 0 where
     pub number : List ℕ
@@ -90,52 +109,78 @@ module _ (start : Start) (sends : ℕ) where
     pub behind : HasBehind (head_words start sends) number found bytes
     pub leads : IsLed start.version.logic sends (opened start.setup) (lines_in (data_log number) bytes) silo
 
-  module _ (log : LogClaims) where
-    -- ---- what was cut off
+  -- ---- a checkpoint in the place of the log
 
-    -- Before anything was written to it the log's file had its head and the batches that were found whole, and not one byte more: what
-    -- was found behind them was cut off. If nothing was, the file is as it was found; that of a new log is its head.
-    pub record IsCut : Type 0 where
+  -- Since its start the log of that number was given these acts. It is settled: all that its lines answer was told.
+  pub record IsTold (number bytes : List ℕ) (acts : List Act) : Type 0 where
+    pub sum : ℕ
+    pub settled : IsSettled (data_log number) (acted number bytes acts) sum
+
+  -- The text of a checkpoint that takes the place of that log. It says where its lines lead, but for the replies, and the log that goes on
+  -- from there has another number.
+  pub record TakesPlace (number bytes : List ℕ) (acts : List Act) (next : Setup) (point : List ℕ) : Type 0 where
+    pub told : IsTold number bytes acts
+    pub says : HasText point (record { follows = number; kinds = start.version.number; sends = sends; setup = next })
+    pub opens : opening next ≡ untold (led_by number bytes acts)
+    pub words : head_words (started start.version next) sends ≡ head_words start sends
+    pub other : spelled (sum_in point) ≢ number
+
+  module _ (log : LogClaims) where
+    -- ---- what lasts
+
+    -- The file of the log of that number has its head and the batches that were found whole, not one byte more, and then what these acts
+    -- wrote: what was found behind those batches was cut off. The file of a new log has its head alone.
+    pub record StandsAt (number bytes : List ℕ) (acts : List Act) : Type 0 where
+      pub begun : log.new.begun ≡ Some (head_text (head_words start sends) number ++ kept_bytes number bytes)
+      pub acts_are : log.new.acts ≡ Some acts
+
+    -- The checkpoint is in its place, and the log that it replaces is there still.
+    pub record StandsHalfway (number bytes : List ℕ) (acts : List Act) : Type 0 where
+      pub stands : StandsAt number bytes acts
+      pub next : Setup
+      pub point : List ℕ
+      pub takes : TakesPlace number bytes acts next point
+      pub past : log.new.past ≡ with_point log.old.past point
+
+    -- The checkpoint is in its place, and so is a new log that goes on from it, without a batch.
+    pub record IsReplaced (number bytes : List ℕ) (acts : List Act) : Type 0 where
+      pub next : Setup
+      pub point : List ℕ
+      pub takes : TakesPlace number bytes acts next point
+      pub past : log.new.past
+          ≡ with_log log.old.past point (Some (head_text (head_words start sends) number ++ kept_bytes number bytes)) acts
+      pub at : IsAt log.new.acts log.new.begun (Some (head_text (head_words start sends) (spelled (sum_in point))))
+
+    -- what became of the log of that number
+    abbrev pub Stands : List ℕ → List ℕ → List Act → Type 0
+    Stands number bytes acts =
+        (StandsAt number bytes acts × (log.new.past ≡ log.old.past)) ⊎ (StandsHalfway number bytes acts ⊎ IsReplaced number bytes acts)
+
+    -- The log goes on behind the batches that were found, and at each moment of the run since: whatever a crash leaves of it, all that was
+    -- told is the beginning of what it answers. Once it is replaced, all that it answers was told.
+    pub record LastsOn : Type 0 where
       pub number : List ℕ
       pub bytes : List ℕ
       pub numbered : IsNumber number
       pub behind : HasBehind (head_words start sends) number log.old.begun bytes
       pub off : List ℕ
       pub parts : kept_bytes number bytes ++ off ≡ bytes
-      pub begun : log.new.begun ≡ Some (head_text (head_words start sends) number ++ kept_bytes number bytes)
-
-    -- the same, if the log is known
-    abbrev pub CutsLog : Type 0
-    CutsLog = log.old.acts ≡ Some [] → IsCut
-
-    -- It was cut, or it is as it was found.
-    abbrev pub MayCutLog : Type 0
-    MayCutLog = log.old.acts ≡ Some [] → (log.new.begun ≡ log.old.begun) ⊎ IsCut
-
-    -- ---- what lasts
-
-    -- The log goes on behind the batches that were found, and at each moment of the run since: whatever a crash leaves of it, all that was
-    -- told is the beginning of what it answers.
-    pub record LastsOn : Type 0 where
-      pub number : List ℕ
-      pub bytes : List ℕ
-      pub numbered : IsNumber number
-      pub behind : HasBehind (head_words start sends) number log.old.begun bytes
       pub acts : List Act
-      pub are : log.new.acts ≡ Some acts
       pub always : Always (Lasts (data_log number)) (restarted (data_log number) bytes) acts
+      pub stands : Stands number bytes acts
+
+    -- The same, if the log is known.
+    abbrev pub CutsLog : Type 0
+    CutsLog = log.old.acts ≡ Some [] → LastsOn
 
     -- The same, if the log is known; or nothing was done to it.
     abbrev pub DataLasts : Type 0
-    DataLasts = log.old.acts ≡ Some [] → IsAt log.new.acts log.new.begun log.old.begun ⊎ LastsOn
+    DataLasts = log.old.acts ≡ Some [] → (IsAt log.new.acts log.new.begun log.old.begun × (log.new.past ≡ log.old.past)) ⊎ LastsOn
 
-    -- The log has the lines that were found, and all of these behind them.
+    -- The log has the lines that were found, and all of these behind them, or had them when it was replaced.
     pub record HasLines (lines : List (List ℕ)) : Type 0 where
-      pub number : List ℕ
-      pub bytes : List ℕ
-      pub numbered : IsNumber number
-      pub behind : HasBehind (head_words start sends) number log.old.begun bytes
-      pub keeps : KeepsLines (data_log number) (restarted (data_log number) bytes) lines [] log.new.acts
+      pub on : LastsOn
+      pub keeps : KeepsLines (data_log on.number) (restarted (data_log on.number) on.bytes) lines [] (Some on.acts)
 
     -- the same of the lines of an input, if both are known
     abbrev pub HasInput : Option (List ℕ) → Type 0
@@ -205,8 +250,9 @@ module _ (start : Start) (sends : ℕ) where
     StartFailsBy (data_fault.Failed cause.Read) = log.new.failed ≡ true
     StartFailsBy (data_fault.Failed cause.Write) = log.new.failed ≡ true
     StartFailsBy (data_fault.Failed cause.Memory) = Unit {0}
-    StartFailsBy (data_fault.Failed cause.InUse) = LeavesLog log
     StartFailsBy (data_fault.Failed why) = ⊥
+    StartFailsBy data_fault.NoCheckpoint = ⊥
+    StartFailsBy data_fault.NoLog = ⊥
     StartFailsBy data_fault.OtherWords = LeavesLog log × HasOtherWords
     StartFailsBy (data_fault.Refused line) = LeavesLog log × ((IsNoLog × (line ≡ 1)) ⊎ RefusesLine line)
     StartFailsBy (data_fault.Otherwise line) = LeavesLog log × TellsOtherwiseAt line

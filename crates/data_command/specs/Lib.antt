@@ -1,4 +1,6 @@
 pub mod Words
 pub mod Texts
 pub mod Data
+pub mod Folder
+pub mod Laws
 pub mod inside

@@ -10,6 +10,13 @@ use Rattle.data_command.specs.declared.fault.DataFault.TheVariants as data_fault
 abbrev pub other_words_text : List ℕ
 other_words_text = codes "silo: the data have other words" ++ 10 ∷ []
 
+-- the lines that tell that the checkpoint is refused, and that there is one and no log
+abbrev pub no_checkpoint_text : List ℕ
+no_checkpoint_text = codes "silo: the checkpoint is refused" ++ 10 ∷ []
+
+abbrev pub no_log_text : List ℕ
+no_log_text = codes "silo: the log is missing" ++ 10 ∷ []
+
 -- the line that tells which line of the log is refused
 abbrev pub refused_text : ℕ → List ℕ
 refused_text line = codes "silo: log line " ++ decimal line ++ (codes " is refused" ++ 10 ∷ [])
@@ -21,6 +28,12 @@ otherwise_text line = codes "silo: log line " ++ decimal line ++ (codes " is ans
 -- what a fault is to the program, unless memory is refused for what is said
 abbrev pub IsDataFault : DataFault → ProgramFault → Type 0
 IsDataFault (data_fault.Failed why) told = told ≡ fault.Failed why
+IsDataFault data_fault.NoCheckpoint (fault.Failed why) = why ≡ cause.Memory
+IsDataFault data_fault.NoCheckpoint (fault.Refused text) = ⊥
+IsDataFault data_fault.NoCheckpoint (fault.NoJournal text) = string_bytes text ≡ no_checkpoint_text
+IsDataFault data_fault.NoLog (fault.Failed why) = why ≡ cause.Memory
+IsDataFault data_fault.NoLog (fault.Refused text) = ⊥
+IsDataFault data_fault.NoLog (fault.NoJournal text) = string_bytes text ≡ no_log_text
 IsDataFault data_fault.OtherWords (fault.Failed why) = why ≡ cause.Memory
 IsDataFault data_fault.OtherWords (fault.Refused text) = string_bytes text ≡ other_words_text
 IsDataFault data_fault.OtherWords (fault.NoJournal text) = ⊥

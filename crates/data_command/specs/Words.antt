@@ -1,6 +1,8 @@
 -- What a log's head says of a silo.
 use Rattle.std.specs.Prelude.{ℕ, List, map}
+use Rattle.tenant_gate.specs.Table.{Table}
 use Rattle.tenant_gate.specs.declared.limits.Limits.{Limits}
+use Rattle.idle_collector.specs.Ages.{Ages}
 use Rattle.command_parts.specs.Setups.{Start}
 use Rattle.log_text.specs.Head.{Words, words_text}
 
@@ -8,15 +10,14 @@ use Rattle.log_text.specs.Head.{Words, words_text}
 abbrev pub tenant_words : List ℕ × Limits → List ℕ × (ℕ × ℕ)
 tenant_words entry = (entry.0, (entry.1.activations, entry.1.mailbox))
 
--- the words of a silo with so many deliveries behind a line
+-- the words of that logic, with so many deliveries behind a line, of these ages and tenants
+abbrev pub words_by : ℕ → ℕ → ℕ → Ages → Table → Words
+words_by kinds sends age ages tenants =
+    record { kinds = kinds; sends = sends; age = age; ages = ages; tenants = map tenant_words tenants }
+
+-- those of a silo that starts so
 abbrev pub words_of : Start → ℕ → Words
-words_of start sends = record {
-  kinds = start.version.number;
-  sends = sends;
-  age = start.setup.age;
-  ages = start.setup.ages;
-  tenants = map tenant_words start.setup.tenants;
-}
+words_of start sends = words_by start.version.number sends start.setup.age start.setup.ages start.setup.tenants
 
 -- their lines
 abbrev pub head_words : Start → ℕ → List ℕ

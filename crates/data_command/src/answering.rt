@@ -1,18 +1,22 @@
 //! Every line of an input, answered by a silo that goes on where its log ends.
 
-ghost use Rattle.std.specs.Prelude.{◌≡◌, [], false, true, IfErr, IfOk, OnErr, OnOk};
+ghost use Rattle.std.specs.Prelude.{◌≡◌, [], false, true, IfErr, IfOk, OnErr, OnOk, Some, option_map};
 ghost use Rattle.silo_model.specs.Opening.{opening};
 ghost use Rattle.line_protocol.specs.Reading.{IsFresh};
-ghost use Rattle.command_parts.specs.Setups.{setup_of, started, starting, version_of};
-ghost use Rattle.data_command.specs.Data.{AnswersData, CutsLog, DataFailsBy, DataLasts, HasInput, MayCutLog, log_claims};
+ghost use Rattle.command_parts.specs.Setups.{started, starting, version_of};
+ghost use Rattle.data_command.specs.Data.{AnswersData, CutsLog, DataFailsBy, DataLasts, HasInput, log_claims};
+ghost use Rattle.data_command.specs.Folder.{FolderAnswers, FolderFailsBy, FolderHas, FolderLasts};
 ghost use Rattle.data_command.specs.Words.{head_words};
 ghost use Rattle.data_command.specs.inside.Starts.{running_cause};
 
 use crate::fault::DataFault;
+use crate::found::open_folder;
 use crate::head::head_words;
 use crate::opening::DataOpening;
+use crate::ready::{ReadySilo, ready_silo};
+use crate::replacing::replace_log;
 use crate::starting::{LogTask, start_log};
-use command_parts::{Cause, DataFiles, Start, new_silo};
+use command_parts::{Cause, DataFiles};
 use grain_logic::GrainLogic;
 use grain_storage::MemoryStorage;
 use line_answer::AnsweringSilo;
@@ -38,85 +42,92 @@ fn running_cause(fault: LogFault) -> Cause
     }
 }
 
-/// A silo over no rows that answers lines, and needn't keep its history.
-fn dropping_silo<L: GrainLogic + Drop>(
-    alloc: Global,
-    start: Start<L>,
-) -> Result<AnsweringSilo<MemoryStorage, L>, AllocError>
-    ensures setup { IfOk result (λ s. s.history.setup ≡ setup_of start.tenants start.age start.ages) }
-    ensures opened { IfOk result (λ s. s.history.whole ≡ opening s.history.setup) }
-    ensures ready { IfOk result (λ s. s.stopped ≡ false) }
-    ensures drops { IfOk result (λ s. s.keeps ≡ false) }
-{
-    let mut silo = new_silo(alloc, start)?;
-    silo.drop_history();
-    Ok(silo)
-}
-
-/// Starts the silo's log, then answers each line of the input. A line is in the log before any reply to it is written.
+/// Starts the silo's log, then answers each line of the input. A line is in the log before any reply to it is written. In the end
+/// a checkpoint takes the place of a log that has lines.
 fn answer_on<L: GrainLogic, F: DataFiles, R: Read, W: Write>(
     alloc: Global,
     silo: &mut AnsweringSilo<MemoryStorage, L>,
-    task: &LogTask<'_>,
+    task: &mut LogTask,
     files: &mut F,
     input: &mut Input<R>,
     output: &mut Output<W>,
 ) -> Result<(), DataFault>
     requires ready { silo.old.stopped ≡ false }
     requires opened { silo.old.history.whole ≡ opening silo.old.history.setup }
-    requires words { task.now.words.items ≡ head_words
-        (started (version_of L.logic task.now.kinds) silo.old.history.setup) task.now.sends }
+    requires words { task.old.words.items ≡ head_words
+        (started (version_of L.logic task.old.kinds) silo.old.history.setup) task.old.sends }
     requires fresh { IsFresh input.old.lines }
-    ensures answered { OnOk result (AnswersData (started (version_of L.logic task.now.kinds) silo.old.history.setup) task.now.sends
-        (log_claims F.begun F.acts F.failed files.old files.new)
+    requires found { F.acts files.old ≡ Some [] → F.begun files.old ≡ option_map (λ bytes. bytes.items) task.old.log }
+    ensures answered { OnOk result (AnswersData (started (version_of L.logic task.old.kinds) silo.old.history.setup)
+        task.old.sends (log_claims F.begun F.acts F.past F.failed files.old files.new)
         (R.remaining input.old.reader) (R.remaining input.new.reader) (W.contents output.old.writer) (W.contents output.new.writer)) }
-    ensures has { OnOk result (task.now.folder.sync ≡ true → HasInput
-        (started (version_of L.logic task.now.kinds) silo.old.history.setup) task.now.sends
-        (log_claims F.begun F.acts F.failed files.old files.new) (R.remaining input.old.reader)) }
+    ensures has { OnOk result (task.old.sync ≡ true → HasInput (started (version_of L.logic task.old.kinds) silo.old.history.setup)
+        task.old.sends (log_claims F.begun F.acts F.past F.failed files.old files.new) (R.remaining input.old.reader)) }
     ensures output { OnOk result (output.new.calls.failed ≡ output.old.calls.failed) }
     ensures out { OnOk result (output.old.calls.held ≡ false → output.new.calls.held ≡ false) }
-    ensures fault { IfErr result (λ why. DataFailsBy (started (version_of L.logic task.now.kinds) silo.old.history.setup) task.now.sends
-        (log_claims F.begun F.acts F.failed files.old files.new) why
+    ensures fault { IfErr result (λ why. DataFailsBy (started (version_of L.logic task.old.kinds) silo.old.history.setup) task.old.sends
+        (log_claims F.begun F.acts F.past F.failed files.old files.new) why
         (R.remaining input.old.reader) (R.remaining input.new.reader) input.new.lines
         (W.contents output.old.writer) (W.contents output.new.writer)) }
-    ensures cut { OnOk result (task.now.folder.sync ≡ true → CutsLog
-        (started (version_of L.logic task.now.kinds) silo.old.history.setup) task.now.sends
-        (log_claims F.begun F.acts F.failed files.old files.new)) }
-    ensures begun { task.now.folder.sync ≡ true → MayCutLog
-        (started (version_of L.logic task.now.kinds) silo.old.history.setup) task.now.sends
-        (log_claims F.begun F.acts F.failed files.old files.new) }
-    ensures lasts { task.now.folder.sync ≡ true → DataLasts
-        (started (version_of L.logic task.now.kinds) silo.old.history.setup) task.now.sends
-        (log_claims F.begun F.acts F.failed files.old files.new) }
+    ensures cut { OnOk result (task.old.sync ≡ true → CutsLog (started (version_of L.logic task.old.kinds) silo.old.history.setup)
+        task.old.sends (log_claims F.begun F.acts F.past F.failed files.old files.new)) }
+    ensures lasts { task.old.sync ≡ true → DataLasts (started (version_of L.logic task.old.kinds) silo.old.history.setup) task.old.sends
+        (log_claims F.begun F.acts F.past F.failed files.old files.new) }
 {
     let Ok(lines) = LineReader::with_capacity(alloc, READ_BYTES) else {
         return Err(DataFault::Failed(Cause::Memory));
     };
-    let place = match start_log(alloc, files, silo, task) {
-        Ok(place) => place,
+    let (sync, sends) = (task.sync, task.sends);
+    let begun = match start_log(alloc, files, silo, task) {
+        Ok(begun) => begun,
         Err(why) => {
             drop(lines);
             return Err(why);
         }
     };
-    files.set_sync(task.folder.sync);
+    files.set_sync(sync);
     input.lines = lines;
-    match answer_logged(alloc, input, output, files, place, silo, task.sends) {
-        Ok(_) => Ok(()),
-        Err(why) => Err(DataFault::Failed(running_cause(why))),
+    let count = match answer_logged(alloc, input, output, files, begun.place, silo, sends) {
+        Ok(count) => count,
+        Err(why) => return Err(DataFault::Failed(running_cause(why))),
+    };
+    if count == 0 && !begun.has_lines {
+        return Ok(());
+    }
+    match replace_log(alloc, files, silo, task, begun.number.as_slice()) {
+        Ok(()) => Ok(()),
+        Err(why) => Err(DataFault::Failed(why)),
     }
 }
 
+/// The words of the log's head.
+fn words_for<L: GrainLogic>(alloc: Global, opening: &DataOpening<L>) -> Result<Vec<u8>, AllocError>
+    ensures { IfOk result (λ words. words.items ≡ head_words
+        (starting (version_of L.logic opening.now.start.kinds) opening.now.start.tenants opening.now.start.age opening.now.start.ages)
+        opening.now.sends) }
+{
+    let start = &opening.start;
+    head_words(
+        alloc,
+        start.kinds,
+        opening.sends,
+        start.age,
+        &start.ages,
+        &start.tenants,
+    )
+}
+
 /// Answers each line of the input, followed by at most `opening.sends` deliveries, with a silo that goes on where the
-/// log in the folder ends. The folder and its log are made if they aren't there. Each line is in the log, and on the
-/// disk if `folder.sync` is set, before any reply to it is written. The replies to the lines of one read, which brings
+/// folder's checkpoint and the log after it lead. The folder and its log are made if they aren't there. Each line is in the log, and on
+/// the disk if `folder.sync` is set, before any reply to it is written. The replies to the lines of one read, which brings
 /// at most 1,048,576 bytes, are written together, or in parts if a batch is full before. The silo drops its history
-/// from time to time, while it answers the log's lines again and afterwards.
+/// from time to time, while it answers the log's lines again and afterwards. At the end of the input a checkpoint takes the place of a
+/// log that has lines.
 ///
 /// # Errors
 ///
-/// `InUse` if another process has the folder; `OtherWords`, `Refused` or `Otherwise` if the silo can't go on with its
-/// log, and then the log is as it was. `Read` or `Write` if a call at the folder, of the reader or of the writer
+/// `InUse` if another process has the folder; `NoCheckpoint`, `NoLog`, `OtherWords`, `Refused` or `Otherwise` if the silo can't go on with
+/// its checkpoint or its log, and then both are as they were. `Read` or `Write` if a call at the folder, of the reader or of the writer
 /// failed; `TooMuch` if the input has too many lines or needs too many reads. `Memory` if memory was refused at any
 /// time, also if a turn was abandoned for lack of it. After a fault no reply is written to lines that aren't in the
 /// log.
@@ -129,53 +140,45 @@ pub fn answer_data<L: GrainLogic + Drop, F: DataFiles, R: Read, W: Write>(
     output: &mut Output<W>,
 ) -> Result<(), DataFault>
     requires fresh { IsFresh input.old.lines }
-    ensures answered { OnOk result (AnswersData
+    ensures answered { OnOk result (FolderAnswers
         (starting (version_of L.logic opening.start.kinds) opening.start.tenants opening.start.age opening.start.ages) opening.sends
-        (log_claims F.begun F.acts F.failed files.old files.new)
+        (log_claims F.begun F.acts F.past F.failed files.old files.new)
         (R.remaining input.old.reader) (R.remaining input.new.reader) (W.contents output.old.writer) (W.contents output.new.writer)) }
 
-    // The log has the lines of the input behind those that it had.
-    ensures has { OnOk result (folder.entry.sync ≡ true → HasInput
+    // The log has the lines of the input behind those that it had, or had them when a checkpoint took its place.
+    ensures has { OnOk result (folder.entry.sync ≡ true → FolderHas
         (starting (version_of L.logic opening.start.kinds) opening.start.tenants opening.start.age opening.start.ages) opening.sends
-        (log_claims F.begun F.acts F.failed files.old files.new) (R.remaining input.old.reader)) }
+        (log_claims F.begun F.acts F.past F.failed files.old files.new) (R.remaining input.old.reader)) }
     ensures unfailed { OnOk result (output.new.calls.failed ≡ output.old.calls.failed) }
     ensures out { OnOk result (output.old.calls.held ≡ false → output.new.calls.held ≡ false) }
-    ensures fault { IfErr result (λ why. DataFailsBy
+    ensures fault { IfErr result (λ why. FolderFailsBy
         (starting (version_of L.logic opening.start.kinds) opening.start.tenants opening.start.age opening.start.ages) opening.sends
-        (log_claims F.begun F.acts F.failed files.old files.new) why
+        (log_claims F.begun F.acts F.past F.failed files.old files.new) why
         (R.remaining input.old.reader) (R.remaining input.new.reader) input.new.lines
         (W.contents output.old.writer) (W.contents output.new.writer)) }
 
-    // At the start the log was cut behind its last batch that fits, and nothing before that end was touched.
-    ensures cut { OnOk result (folder.entry.sync ≡ true → CutsLog
+    // In every outcome, at each moment: whatever a crash leaves of the log, what was told is the beginning of what that log answers; and a
+    // checkpoint that takes its place says where it leads.
+    ensures lasts { folder.entry.sync ≡ true → FolderLasts
         (starting (version_of L.logic opening.start.kinds) opening.start.tenants opening.start.age opening.start.ages) opening.sends
-        (log_claims F.begun F.acts F.failed files.old files.new)) }
-
-    // In every outcome it was cut there, or it is as it was.
-    ensures begun { folder.entry.sync ≡ true → MayCutLog
-        (starting (version_of L.logic opening.start.kinds) opening.start.tenants opening.start.age opening.start.ages) opening.sends
-        (log_claims F.begun F.acts F.failed files.old files.new) }
-
-    // In every outcome, at each moment: whatever a crash leaves of the log, what was told is the beginning of what that log answers.
-    ensures lasts { folder.entry.sync ≡ true → DataLasts
-        (starting (version_of L.logic opening.start.kinds) opening.start.tenants opening.start.age opening.start.ages) opening.sends
-        (log_claims F.begun F.acts F.failed files.old files.new) }
+        (log_claims F.begun F.acts F.past F.failed files.old files.new) }
 {
-    let Ok(words) = head_words(alloc, &opening) else {
-        drop(opening);
-        return Err(DataFault::Failed(Cause::Memory));
+    let words = words_for(alloc, &opening)?;
+    let found = match open_folder(alloc, files, folder.path) {
+        Ok(found) => found,
+        Err(why) => {
+            drop(opening);
+            drop(words);
+            return Err(DataFault::Failed(why));
+        }
     };
-    let task = LogTask {
-        words,
-        kinds: opening.start.kinds,
-        number: opening.number,
-        sends: opening.sends,
-        folder,
+    let ready = match ready_silo(alloc, files, opening, words, found) {
+        Ok(ready) => ready,
+        Err(why) => return Err(why),
     };
-    let Ok(mut silo) = dropping_silo(alloc, opening.start) else {
-        return Err(DataFault::Failed(Cause::Memory));
-    };
-    let done = answer_on(alloc, &mut silo, &task, files, input, output);
+    let ReadySilo { mut silo, mut task } = ready;
+    task.sync = folder.sync;
+    let done = answer_on(alloc, &mut silo, &mut task, files, input, output);
 
     // The process ends soon, and gives all of its memory back at once.
     mem::forget(silo);

@@ -4,7 +4,7 @@ ghost use Rattle.std.specs.Prelude.{◌≡◌};
 ghost use Rattle.data_command.specs.Texts.{IsDataFault};
 
 use command_parts::{Cause, ProgramFault};
-use std::alloc::Global;
+use std::alloc::{AllocError, Global};
 
 /// Why the lines of an input were not all answered, with a folder of data.
 #[derive(Clone, Copy, Debug, PartialEq, Eq)]
@@ -12,7 +12,13 @@ pub enum DataFault {
     /// It failed.
     Failed(Cause),
 
-    /// The folder's log was begun with other words.
+    /// The folder's checkpoint says nothing with which a silo can go on.
+    NoCheckpoint,
+
+    /// The folder has a checkpoint, and no log.
+    NoLog,
+
+    /// The folder's checkpoint or log has other words.
     OtherWords,
 
     /// That line of the log, counted from 1, is refused.
@@ -23,12 +29,35 @@ pub enum DataFault {
     Otherwise(u128),
 }
 
-/// What the program says of a fault, and how it ends: with status 1 if it failed, 2 for other words, and 4 for a line of the log.
+impl From<AllocError> for DataFault {
+    ghost use Rattle.data_command.specs.declared.fault.DataFault.TheVariants as fault;
+    ghost use Rattle.command_parts.specs.declared.failure.Cause.TheVariants as cause;
+
+    ghost from_gives = { λ _ e. e ≡ fault.Failed cause.Memory };
+
+    fn from(_refused: AllocError) -> DataFault {
+        DataFault::Failed(Cause::Memory)
+    }
+}
+
+/// What the program says of a fault, and how it ends: with status 1 if it failed, 2 for other words, and 4 for a checkpoint or a line of
+/// the log that is refused.
 pub fn explain_data(alloc: Global, fault: DataFault) -> ProgramFault
     ensures { IsDataFault fault result }
 {
     match fault {
         DataFault::Failed(why) => ProgramFault::Failed(why),
+        DataFault::NoCheckpoint => match String::from_str(
+            alloc,
+            "silo: the checkpoint is refused\n",
+        ) {
+            Ok(text) => ProgramFault::NoJournal(text),
+            Err(_) => ProgramFault::Failed(Cause::Memory),
+        },
+        DataFault::NoLog => match String::from_str(alloc, "silo: the log is missing\n") {
+            Ok(text) => ProgramFault::NoJournal(text),
+            Err(_) => ProgramFault::Failed(Cause::Memory),
+        },
         DataFault::OtherWords => match String::from_str(
             alloc,
             "silo: the data have other words\n",

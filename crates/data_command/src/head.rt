@@ -1,16 +1,14 @@
 //! The words of a silo, as a log's head has them.
 
 ghost use Rattle.std.specs.Prelude.{◌≡◌, ◌++◌, IfOk, OnOk, flat_map, map};
-ghost use Rattle.log_text.specs.Head.{kind_line, tenant_line};
-ghost use Rattle.command_parts.specs.Setups.{starting, version_of};
-ghost use Rattle.data_command.specs.Words.{head_words, tenant_words};
+ghost use Rattle.log_text.specs.Head.{kind_line, tenant_line, words_text};
+ghost use Rattle.data_command.specs.Words.{tenant_words, words_by};
 
-use crate::opening::DataOpening;
 use grain_id::{Kind, Tenant};
-use grain_logic::GrainLogic;
+use idle_collector::AgeTable;
 use log_text::{push_kind, push_number, push_tenant};
 use std::alloc::{AllocError, Global};
-use tenant_gate::Limits;
+use tenant_gate::{Age, Limits, TenantTable};
 
 /// Adds a line for each kind that has an age of its own.
 fn push_ages(text: &mut Vec<u8>, ages: &[(Kind, u64)]) -> Result<(), AllocError>
@@ -37,20 +35,22 @@ fn push_tenants(text: &mut Vec<u8>, tenants: &[(Tenant, Limits)]) -> Result<(), 
     Ok(())
 }
 
-/// The lines that a log's head has of the silo: its kinds, deliveries, ages and tenants.
-pub(crate) fn head_words<L: GrainLogic>(
+/// The lines that a log's head has of a silo: the number of its logic, its deliveries, ages and tenants.
+pub(crate) fn head_words(
     alloc: Global,
-    opening: &DataOpening<L>,
+    kinds: u8,
+    sends: u64,
+    age: Age,
+    ages: &AgeTable,
+    tenants: &TenantTable,
 ) -> Result<Vec<u8>, AllocError>
-    ensures { IfOk result (λ words. words.items
-        ≡ head_words (starting (version_of L.logic opening.now.start.kinds) opening.now.start.tenants opening.now.start.age
-        opening.now.start.ages) opening.now.sends) }
+    ensures { IfOk result (λ words. words.items ≡ words_text (words_by kinds sends age ages.now tenants.now)) }
 {
     let mut text = Vec::new(alloc);
-    push_number(&mut text, b"kinds", u64::from(opening.start.kinds))?;
-    push_number(&mut text, b"sends", opening.sends)?;
-    push_number(&mut text, b"age", opening.start.age.millis())?;
-    push_ages(&mut text, opening.start.ages.list())?;
-    push_tenants(&mut text, opening.start.tenants.list())?;
+    push_number(&mut text, b"kinds", u64::from(kinds))?;
+    push_number(&mut text, b"sends", sends)?;
+    push_number(&mut text, b"age", age.millis())?;
+    push_ages(&mut text, ages.list())?;
+    push_tenants(&mut text, tenants.list())?;
     Ok(text)
 }

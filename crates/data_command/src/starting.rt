@@ -1,15 +1,15 @@
 //! A log that is begun, or answered again.
 
-ghost use Rattle.std.specs.Prelude.{◌≡◌, ◌≤◌, ◌⊎◌, [], false, length, true, IfErr, IfOk, OnErr, OnOk, Some};
+ghost use Rattle.std.specs.Prelude.{◌≡◌, ◌↔◌, ◌≤◌, ◌⊎◌, [], false, length, true, IfErr, IfOk, IsTrue, None, OnErr, OnOk, Some, option_map};
 ghost use Rattle.silo_model.specs.Opening.{opening};
 ghost use Rattle.log_text.specs.Head.{head_text};
 ghost use Rattle.log_text.specs.Lines.{whole_lines};
 ghost use Rattle.log_text.specs.Sums.{spelled};
-ghost use Rattle.log_host.specs.Files.{Begins, Cuts, Finds, MayBegin, MayCut};
+ghost use Rattle.log_host.specs.Files.{Begins, Cuts, MayBegin, MayCut};
 ghost use Rattle.command_parts.specs.Setups.{started, version_of};
-ghost use Rattle.data_command.specs.Data.{DataLasts, LogView, MayCutLog, StartFailsBy, log_claims, log_view, place_of, since};
+ghost use Rattle.data_command.specs.Data.{DataLasts, StartFailsBy, log_claims, place_of};
 ghost use Rattle.data_command.specs.Words.{head_words};
-ghost use Rattle.data_command.specs.inside.Starts.{IsStarted, again_fault, opening_cause};
+ghost use Rattle.data_command.specs.inside.Starts.{IsStarted, again_fault};
 
 use crate::fault::DataFault;
 use command_parts::{Cause, DataFiles};
@@ -17,32 +17,29 @@ use grain_logic::GrainLogic;
 use grain_storage::MemoryStorage;
 use line_answer::AnsweringSilo;
 use log_answer::{AgainFault, answer_again};
-use log_host::{HostFault, LogPlace, OpenFault};
+use log_host::{HostFault, LogPlace};
 use log_text::{cut_head, is_log, push_head, spell};
-use silo_words::Data;
 use std::alloc::Global;
 
 /// What a log is begun or continued with: the words of its head, the number of the silo's logic in them, the number
-/// that a new log gets, how many deliveries follow a line at most, and the folder.
+/// that a new log gets, how many deliveries follow a line at most, whether replies wait for the disk, and the bytes of the log
+/// that is there, if there is one.
 #[derive(Drop)]
-pub(crate) struct LogTask<'a> {
+pub(crate) struct LogTask {
     pub(crate) words: Vec<u8>,
     pub(crate) kinds: u8,
     pub(crate) number: u64,
     pub(crate) sends: u64,
-    pub(crate) folder: Data<'a>,
+    pub(crate) sync: bool,
+    pub(crate) log: Option<Vec<u8>>,
 }
 
-/// What a fault of opening is to the program.
-fn opening_cause(fault: OpenFault) -> Cause
-    ensures { result ≡ opening_cause fault }
-{
-    match fault {
-        OpenFault::Memory => Cause::Memory,
-        OpenFault::InUse => Cause::InUse,
-        OpenFault::Read => Cause::Read,
-        OpenFault::Write => Cause::Write,
-    }
+/// A log that is gone on with at a place: its number, as it is spelled, and whether it has a batch.
+#[derive(Clone, Copy)]
+pub(crate) struct StartedLog {
+    pub(crate) place: LogPlace,
+    pub(crate) number: [u8; 16],
+    pub(crate) has_lines: bool,
 }
 
 /// Begins a log of this number for these words.
@@ -56,6 +53,7 @@ fn begin_log<F: DataFiles>(
     ensures begun { OnOk result (Begins (F.acts files.old) (F.acts files.new) (F.begun files.new) (head_text words.now (spelled number))) }
     ensures err { OnErr result (MayBegin (F.acts files.old) (F.begun files.old) (F.acts files.new) (F.begun files.new)
         (head_text words.now (spelled number))) }
+    ensures past { F.past files.new ≡ F.past files.old }
     ensures fault { IfErr result (λ why. (why ≡ Cause.Memory) ⊎ ((why ≡ Cause.Write) × (F.failed files.new ≡ true))) }
 {
     let mut head = Vec::new(alloc);
@@ -69,7 +67,7 @@ fn begin_log<F: DataFiles>(
 }
 
 /// How many LF there are.
-fn count_lines(bytes: &[u8]) -> u128
+pub(crate) fn count_lines(bytes: &[u8]) -> u128
     ensures lines { result ≡ length (whole_lines bytes.now) }
     ensures bound { result ≤ length bytes.now }
 {
@@ -100,6 +98,7 @@ fn cut_end<F: DataFiles>(files: &mut F, bytes: &[u8], length: usize) -> Result<(
     ensures ok { F.begun files.old ≡ Some bytes.now
         → OnOk result (Cuts (F.acts files.old) (F.begun files.old) (F.acts files.new) (F.begun files.new) length) }
     ensures err { OnErr result (MayCut (F.acts files.old) (F.begun files.old) (F.acts files.new) (F.begun files.new) length) }
+    ensures past { F.past files.new ≡ F.past files.old }
     ensures failed { OnErr result (F.failed files.new ≡ true) }
 {
     if length < bytes.len() {
@@ -108,34 +107,47 @@ fn cut_end<F: DataFiles>(files: &mut F, bytes: &[u8], length: usize) -> Result<(
     Ok(())
 }
 
+/// Whether the bytes are the same.
+pub(crate) fn is_same(one: &[u8], other: &[u8]) -> bool
+    ensures { IsTrue result ↔ (one.now ≡ other.now) }
+{
+    one == other
+}
+
+/// The bytes of a log's number.
+fn digits_of(number: &[u8]) -> [u8; 16]
+    requires { length number.now ≡ 16 }
+    ensures { result ≡ number.now }
+{
+    let mut digits = [0; 16];
+    digits.copy_from_slice(number);
+    digits
+}
+
 /// Answers the lines of a log again, and cuts off what follows its last batch.
 fn resume_log<F: DataFiles, L: GrainLogic>(
     alloc: Global,
     files: &mut F,
     silo: &mut AnsweringSilo<MemoryStorage, L>,
-    task: &LogTask<'_>,
+    task: &LogTask,
     bytes: &[u8],
-) -> Result<LogPlace, DataFault>
+) -> Result<StartedLog, DataFault>
     requires ready { silo.old.stopped ≡ false }
     requires opened { silo.old.history.whole ≡ opening silo.old.history.setup }
     requires words { task.now.words.items ≡ head_words
         (started (version_of L.logic task.now.kinds) silo.old.history.setup) task.now.sends }
-    ensures started { (old : LogView) → Finds old.acts old.begun (F.acts files.old) (F.begun files.old) (Some bytes.now)
-        → IfOk result (λ place. IsStarted silo.old.keeps (started (version_of L.logic task.now.kinds) silo.old.history.setup) task.now.sends
-        (since old (log_view F.begun F.acts F.failed files.new)) place silo.new.history) }
+    requires found { F.acts files.old ≡ Some [] → F.begun files.old ≡ Some bytes.now }
+    ensures started { IfOk result (λ begun. IsStarted silo.old.keeps
+        (started (version_of L.logic task.now.kinds) silo.old.history.setup) task.now.sends
+        (log_claims F.begun F.acts F.past F.failed files.old files.new) begun silo.new.history) }
     ensures ready { OnOk result (silo.new.stopped ≡ false) }
     ensures keeps { silo.new.keeps ≡ silo.old.keeps }
-    ensures fault { (old : LogView) → Finds old.acts old.begun (F.acts files.old) (F.begun files.old) (Some bytes.now)
-        → IfErr result (λ why. StartFailsBy (started (version_of L.logic task.now.kinds) silo.old.history.setup) task.now.sends
-        (since old (log_view F.begun F.acts F.failed files.new)) why) }
-    ensures cut { (old : LogView) → Finds old.acts old.begun (F.acts files.old) (F.begun files.old) (Some bytes.now)
-        → OnErr result (MayCutLog
+    ensures fault { IfErr result (λ why. StartFailsBy
         (started (version_of L.logic task.now.kinds) silo.old.history.setup) task.now.sends
-        (since old (log_view F.begun F.acts F.failed files.new))) }
-    ensures lasts { (old : LogView) → Finds old.acts old.begun (F.acts files.old) (F.begun files.old) (Some bytes.now)
-        → OnErr result (DataLasts
+        (log_claims F.begun F.acts F.past F.failed files.old files.new) why) }
+    ensures lasts { OnErr result (DataLasts
         (started (version_of L.logic task.now.kinds) silo.old.history.setup) task.now.sends
-        (since old (log_view F.begun F.acts F.failed files.new))) }
+        (log_claims F.begun F.acts F.past F.failed files.old files.new)) }
 {
     let Some((number, behind)) = cut_head(task.words.as_slice(), bytes) else {
         if is_log(bytes) {
@@ -152,45 +164,49 @@ fn resume_log<F: DataFiles, L: GrainLogic>(
     if cut_end(files, bytes, head.len() + again.length).is_err() {
         return Err(DataFault::Failed(Cause::Write));
     }
-    Ok(again.place)
+    Ok(StartedLog {
+        place: again.place,
+        number: digits_of(number),
+        has_lines: again.lines > 0,
+    })
 }
 
-/// Opens the folder, and begins its log if it has none, or else answers its lines again.
+/// Begins the log of an open folder if it has none, or else answers its lines again, and then drops its bytes.
 pub(crate) fn start_log<F: DataFiles, L: GrainLogic>(
     alloc: Global,
     files: &mut F,
     silo: &mut AnsweringSilo<MemoryStorage, L>,
-    task: &LogTask<'_>,
-) -> Result<LogPlace, DataFault>
+    task: &mut LogTask,
+) -> Result<StartedLog, DataFault>
     requires ready { silo.old.stopped ≡ false }
     requires opened { silo.old.history.whole ≡ opening silo.old.history.setup }
-    requires words { task.now.words.items ≡ head_words
-        (started (version_of L.logic task.now.kinds) silo.old.history.setup) task.now.sends }
-    ensures started { IfOk result (λ place. IsStarted silo.old.keeps
-        (started (version_of L.logic task.now.kinds) silo.old.history.setup) task.now.sends
-        (log_claims F.begun F.acts F.failed files.old files.new) place silo.new.history) }
+    requires words { task.old.words.items ≡ head_words
+        (started (version_of L.logic task.old.kinds) silo.old.history.setup) task.old.sends }
+    requires found { F.acts files.old ≡ Some [] → F.begun files.old ≡ option_map (λ bytes. bytes.items) task.old.log }
+    ensures task { task.new ≡ record task.old { log = None } }
+    ensures started { IfOk result (λ begun. IsStarted silo.old.keeps
+        (started (version_of L.logic task.old.kinds) silo.old.history.setup) task.old.sends
+        (log_claims F.begun F.acts F.past F.failed files.old files.new) begun silo.new.history) }
     ensures ready { OnOk result (silo.new.stopped ≡ false) }
     ensures keeps { silo.new.keeps ≡ silo.old.keeps }
-    ensures fault { IfErr result (λ why. StartFailsBy (started (version_of L.logic task.now.kinds) silo.old.history.setup) task.now.sends
-        (log_claims F.begun F.acts F.failed files.old files.new) why) }
-    ensures cut { OnErr result (MayCutLog (started (version_of L.logic task.now.kinds) silo.old.history.setup) task.now.sends
-        (log_claims F.begun F.acts F.failed files.old files.new)) }
-    ensures lasts { OnErr result (DataLasts (started (version_of L.logic task.now.kinds) silo.old.history.setup) task.now.sends
-        (log_claims F.begun F.acts F.failed files.old files.new)) }
+    ensures fault { IfErr result (λ why. StartFailsBy
+        (started (version_of L.logic task.old.kinds) silo.old.history.setup) task.old.sends
+        (log_claims F.begun F.acts F.past F.failed files.old files.new) why) }
+    ensures lasts { OnErr result (DataLasts
+        (started (version_of L.logic task.old.kinds) silo.old.history.setup) task.old.sends
+        (log_claims F.begun F.acts F.past F.failed files.old files.new)) }
 {
-    let found = match files.open(alloc, task.folder.path) {
-        Ok(found) => found,
-        Err(why) => return Err(DataFault::Failed(opening_cause(why))),
-    };
-    match found {
-        Some(bytes) => resume_log(alloc, files, silo, task, bytes.as_slice()),
-        None => {
-            // For the proof: that all is idle.
-            let _ = silo.journal();
-            match begin_log(alloc, files, task.words.as_slice(), task.number) {
-                Ok(place) => Ok(place),
-                Err(why) => Err(DataFault::Failed(why)),
-            }
-        }
+    if let Some(bytes) = task.log.take() {
+        return resume_log(alloc, files, silo, task, bytes.as_slice());
+    }
+    // For the proof: that all is idle.
+    let _ = silo.journal();
+    match begin_log(alloc, files, task.words.as_slice(), task.number) {
+        Ok(place) => Ok(StartedLog {
+            place,
+            number: spell(task.number),
+            has_lines: false,
+        }),
+        Err(why) => Err(DataFault::Failed(why)),
     }
 }

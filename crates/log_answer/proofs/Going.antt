@@ -5,6 +5,7 @@ use Rattle.std.specs.Io.KnownBytes.{IsAtEnd, Keeps}
 use Rattle.std.proofs.KnownBytes.{Keeps-refl}
 use Rattle.grain_logic.specs.Logic.{Logic}
 use Rattle.silo_model.specs.Journal.{LeadsTo}
+use Rattle.silo_model.specs.Opening.{Setup}
 use Rattle.silo_model.specs.Segments.{untold}
 use Rattle.silo_model.specs.Whole.{Whole}
 use Rattle.silo_core.specs.History.{History}
@@ -15,7 +16,7 @@ use Rattle.answer_model.specs.Idle.{AllIdle}
 use Rattle.log_host.specs.Acts.{Act, Held, held_from}
 use Rattle.log_host.proofs.Moments.{held_on}
 use Rattle.log_host.specs.declared.place.LogPlace.{LogPlace}
-use Rattle.log_answer.specs.Answers.{HasLeft, kept_line, kept_lines, led, silo_log}
+use Rattle.log_answer.specs.Answers.{HasLeft, SameTables, kept_line, kept_lines, led, silo_log}
 use Rattle.log_host.specs.Lasting.{LastsFrom, lines_in}
 use Rattle.log_answer.specs.Runs.{AnswersLogged, GoesFrom, GoesOn, KeepsLines, StopsLogged}
 use Rattle.log_answer.specs.Starts.{IsOwn, MarksTell, OwnsFrom}
@@ -55,6 +56,13 @@ pub record GoingOn (keeps : Bool) (logic : Logic) (n count : ℕ) (from left : O
   pub all : History
   pub has : HasLeft keeps all now
   pub going : Going logic n count from left old all before after asked texts begun place start new
+
+-- its tenants are those of before
+pub going_tables : (keeps : Bool) (logic : Logic) (n count : ℕ) (from left : Option (List ℕ)) (old now : History) (before after : Option (List ℕ)) (asked texts : List ℕ)
+    (begun place : LogPlace) (start new : Option (List Act)) → GoingOn keeps logic n count from left old now before after asked texts begun place start new
+    → SameTables old.setup now.setup
+going_tables keeps logic n count from left old now before after asked texts begun place start new p =
+    subst (λ (s : Setup). SameTables s now.setup) p.going.done.setup p.has.tables
 
 module _ (logic : Logic) (n : ℕ) where
   pub going_none : (from : Option (List ℕ)) (old : History) (before : Option (List ℕ)) (asked texts : List ℕ) (begun : LogPlace) (start : Option (List Act))

@@ -8,7 +8,7 @@ ghost use Rattle.line_protocol.specs.Reading.{TakesCut, left_of};
 ghost use Rattle.line_answer.specs.Limits.{answered_limit};
 ghost use Rattle.log_host.specs.Acts.{Act, Held};
 ghost use Rattle.log_host.specs.Lasting.{LastsFrom};
-ghost use Rattle.log_answer.specs.Answers.{silo_log};
+ghost use Rattle.log_answer.specs.Answers.{SameTables, silo_log};
 ghost use Rattle.log_answer.specs.Runs.{GoesFrom, GoesOn, KeepsLines, LogsOn, StopsLogged};
 ghost use Rattle.log_answer.specs.Starts.{MarksTell, OwnsFrom};
 ghost use Rattle.log_answer.specs.inside.Commits.{Commits, StopsTaking, Waits};
@@ -181,6 +181,7 @@ pub fn answer_logged<R: Read, W: Write, H: LogHost, S: GrainStorage, L: GrainLog
         (W.contents output.old.writer) (W.contents output.new.writer) why)) }
     ensures ready { OnOk result (silo.new.stopped ≡ false) }
     ensures keeps { silo.new.keeps ≡ silo.old.keeps }
+    ensures tables { OnOk result (SameTables silo.old.history.setup silo.new.history.setup) }
 
     // In every outcome: if the marks of the log say the sums of what was told for its lines, so do those of what it has then. So a start
     // takes it, wherever a crash cut it (`own_taken`).

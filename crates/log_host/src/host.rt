@@ -88,6 +88,7 @@ pub trait LogFiles: LogHost {
         ensures ok { IfOk result (λ found. Finds (Self.acts self.old) (Self.begun self.old) (Self.acts self.new) (Self.begun self.new)
             (option_map (λ bytes. bytes.items) found)) }
         ensures err { OnErr result ((Self.acts self.new ≡ Self.acts self.old) × (Self.begun self.new ≡ Self.begun self.old)) }
+        ensures acts { Self.acts self.new ≡ Self.acts self.old }
         ensures past { Self.past self.new ≡ Self.past self.old }
         ensures unfailed { OnOk result (Self.failed self.new ≡ Self.failed self.old) }
         ensures failed { IfErr result (λ why. why ≢ OpenFault.Memory → why ≢ OpenFault.InUse → Self.failed self.new ≡ true) };
@@ -101,6 +102,7 @@ pub trait LogFiles: LogHost {
         ensures ok { OnOk result (Begins (Self.acts self.old) (Self.acts self.new) (Self.begun self.new) head.now) }
         ensures err { OnErr result (MayBegin (Self.acts self.old) (Self.begun self.old) (Self.acts self.new) (Self.begun self.new)
             head.now) }
+        ensures acts { Self.acts self.new ≡ Self.acts self.old }
         ensures past { Self.past self.new ≡ Self.past self.old }
         ensures unfailed { OnOk result (Self.failed self.new ≡ Self.failed self.old) }
         ensures failed { OnErr result (Self.failed self.new ≡ true) };

@@ -1,4 +1,4 @@
 mod Listed
 mod Journals
 mod Spelled
-mod OneSaved
+pub mod OneSaved

@@ -58,4 +58,4 @@ ends_well end.Differs words files log from left before after said told writing z
 module _ (words : List Text) (log : LogClaims) (text : Text) (from left : Option (List ℕ)) (reading : Reading) (before after : Option (List ℕ)) where
   -- if the data have other words
   pub folder_unbegun : RefusesFolder words log text from left reading before after → IsUnbegun from left before after
-  folder_unbegun is = ⊎_elim (λ start. start.1) (λ run. absurd run) is.refused
+  folder_unbegun is = ⊎_elim (λ start. start.1) (λ run. ⊎_elim (λ start. start.1) (λ stops. absurd stops) run.holds) is.refused

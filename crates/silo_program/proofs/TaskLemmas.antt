@@ -2,17 +2,20 @@
 use Rattle.idle_collector.specs.Ages.{Ages}
 use Rattle.command_parts.specs.declared.failure.Cause.{Cause}
 use Rattle.command_parts.specs.declared.failure.End.{End}
-use Rattle.data_command.specs.Data.{AnswersData, DataFailsBy, DataLasts, HasInput, LogClaims}
+use Rattle.data_command.specs.Data.{LogClaims, LogView, RunFailsBy, since}
+use Rattle.data_command.specs.Folder.{FolderAnswers, FolderFailsBy, FolderHas, FolderLasts}
 use Rattle.data_command.specs.Texts.{IsDataFault}
 use Rattle.data_command.specs.declared.fault.DataFault.{DataFault}
 use Rattle.data_command.specs.declared.fault.DataFault.TheVariants as data_fault
 use Rattle.silo_program.specs.Ends.{AnswersInFolder, AskForFolder, AskForJournal, AskForKeeping, EndsAs, EndsServing, IsAnsweringFault, IsFaultOf, IsFolderFault}
-use Rattle.silo_program.specs.Ends.{IsNamingFault, IsServingFault, IsStreamFault, LeavesFiles, ServesInput, ShowsText}
+use Rattle.silo_program.specs.Ends.{IsNamingFault, IsServingFault, IsStreamFault, LeavesFiles, RefusesLog, SaysFault, ServesInput, ShowsText}
 use Rattle.command_parts.specs.Files.{FileClaims}
+use Rattle.command_parts.specs.Setups.{Start}
 use Rattle.command_parts.specs.Streams.{IsUnbegun}
 use Rattle.command_parts.specs.declared.failure.Cause.TheVariants as cause
 use Rattle.std.proofs.Common.{Bool, IfErr, IfOk, List, None, Option, Result, Some, [], inl, inr, refl, subst, sym, true, ℕ, ⊎_elim, ◌≡◌, ◌⊎◌}
 use Rattle.std.proofs.lemmas.Result.{IfErr-weaker, IfOk-weaker}
+use Rattle.std.specs.Prelude.{string_bytes}
 use Rattle.std.specs.Io.KnownBytes.{Keeps}
 use Rattle.std.proofs.KnownBytes.{Keeps-refl}
 use Rattle.serve_command.specs.Serving.{ServesLanes, WritesJournalAtMost}
@@ -170,7 +173,7 @@ module _ (words : List Text) (files : FileClaims) (log : LogClaims) (from left :
 
 module _ (words : List Text) (files : FileClaims) (log : LogClaims) (from left : Option (List ℕ)) (age : ℕ) (given : Option Text) (sends : ℕ) (folder : Text) (sync : Bool) (tenants : Table) (ages : Ages) (arguments : List Text) where
   -- what the words ask for lasts
-  pub folder_left : AskForData words age given sends folder sync arguments → NameTenants arguments tenants × NamesAges given ages → (sync ≡ true → DataLasts (program_start tenants age ages) sends log) → LeavesFiles words files log from left
+  pub folder_left : AskForData words age given sends folder sync arguments → NameTenants arguments tenants × NamesAges given ages → (sync ≡ true → FolderLasts (program_start tenants age ages) sends log) → LeavesFiles words files log from left
   folder_left asked named lasts = inr (inr (inr (record {
     tenants = tenants;
     age = age;
@@ -186,18 +189,19 @@ module _ (words : List Text) (files : FileClaims) (log : LogClaims) (from left :
   keeping asked named = record { given = given; arguments = arguments; asked = asked; named = named.0; aged = named.1 }
 
   module _ (before after : Option (List ℕ)) where
-    -- nothing was read or written yet
-    unbegun : {A : Type 0} → (A × IsUnbegun from left before after) ⊎ ⊥ → IsUnbegun from left before after
-    unbegun (inl start) = start.1
-    unbegun (inr run) = absurd run
+    -- nothing was read or written yet, where it stops before any line is answered
+    pub unbegun : (reading : Reading) (why : DataFault) → ((own : Start) (view : LogView) → RunFailsBy own sends (since view log.new) why from left reading before after → ⊥)
+        → FolderFailsBy (program_start tenants age ages) sends log why from left reading before after → IsUnbegun from left before after
+    unbegun reading why never (inl start) = start.1
+    unbegun reading why never (inr run) = ⊎_elim (λ start. start.1) (λ stops. absurd (never run.own run.view stops)) run.holds
 
     -- and there is no memory for what is to be said
     lacks_memory : (reading : Reading) (writing : WriterCalls) (why : Cause) → why ≡ cause.Memory → IsUnbegun from left before after → IsFolderFault words files log (fault.Failed why) from left reading before after writing
     lacks_memory reading writing why is none = subst (λ (c : Cause). IsFolderFault words files log (fault.Failed c) from left reading before after writing) (sym is) (inl (none.0, none.1))
 
     -- all was answered
-    pub folder_answered : AskForData words age given sends folder sync arguments → NameTenants arguments tenants × NamesAges given ages → AnswersData (program_start tenants age ages) sends log from left before after
-        → (sync ≡ true → HasInput (program_start tenants age ages) sends log from) → AnswersInFolder words log from left before after
+    pub folder_answered : AskForData words age given sends folder sync arguments → NameTenants arguments tenants × NamesAges given ages → FolderAnswers (program_start tenants age ages) sends log from left before after
+        → (sync ≡ true → FolderHas (program_start tenants age ages) sends log from) → AnswersInFolder words log from left before after
     folder_answered asked named answered has = record {
       tenants = tenants;
       age = age;
@@ -210,23 +214,33 @@ module _ (words : List Text) (files : FileClaims) (log : LogClaims) (from left :
       has = has;
     }
 
+    -- no silo goes on with it, and this is said
+    refused_by : AskForData words age given sends folder sync arguments → NameTenants arguments tenants × NamesAges given ages → (reading : Reading) (why : DataFault) (text : Text)
+        → FolderFailsBy (program_start tenants age ages) sends log why from left reading before after → SaysFault why text → RefusesLog words log text from left reading before after
+    refused_by asked named reading why text fails said =
+        record { tenants = tenants; age = age; ages = ages; sends = sends; folder = folder; sync = sync; asked = keeping asked named; why = why; refused = fails; said = said }
+
     -- it wasn't, and this is said
     pub folder_failed : (reading : Reading) (writing : WriterCalls) → AskForData words age given sends folder sync arguments → NameTenants arguments tenants × NamesAges given ages → (why : DataFault) (told : ProgramFault) → IsDataFault why told
-        → DataFailsBy (program_start tenants age ages) sends log why from left reading before after → IsFolderFault words files log told from left reading before after writing
+        → FolderFailsBy (program_start tenants age ages) sends log why from left reading before after → IsFolderFault words files log told from left reading before after writing
     folder_failed reading writing asked named (data_fault.Failed why) told is fails = subst (λ (f : ProgramFault). IsFolderFault words files log f from left reading before after writing) (sym is)
         (inr (record { tenants = tenants; age = age; ages = ages; sends = sends; folder = folder; sync = sync; asked = keeping asked named; failed = fails }))
-    folder_failed reading writing asked named data_fault.OtherWords (fault.Failed why) is fails = lacks_memory reading writing why is (unbegun fails)
+    folder_failed reading writing asked named data_fault.OtherWords (fault.Failed why) is fails = lacks_memory reading writing why is (unbegun reading data_fault.OtherWords (λ own view r. r) fails)
     folder_failed reading writing asked named data_fault.OtherWords (fault.Refused text) is fails =
         inr (record { tenants = tenants; age = age; ages = ages; sends = sends; folder = folder; sync = sync; asked = keeping asked named; refused = fails; said = is })
     folder_failed reading writing asked named data_fault.OtherWords (fault.NoJournal text) is fails = absurd is
-    folder_failed reading writing asked named (data_fault.Refused line) (fault.Failed why) is fails = lacks_memory reading writing why is (unbegun fails)
+    folder_failed reading writing asked named data_fault.NoCheckpoint (fault.Failed why) is fails = lacks_memory reading writing why is (unbegun reading data_fault.NoCheckpoint (λ own view r. r) fails)
+    folder_failed reading writing asked named data_fault.NoCheckpoint (fault.Refused text) is fails = absurd is
+    folder_failed reading writing asked named data_fault.NoCheckpoint (fault.NoJournal text) is fails = refused_by asked named reading data_fault.NoCheckpoint (string_bytes text) fails is
+    folder_failed reading writing asked named data_fault.NoLog (fault.Failed why) is fails = lacks_memory reading writing why is (unbegun reading data_fault.NoLog (λ own view r. r) fails)
+    folder_failed reading writing asked named data_fault.NoLog (fault.Refused text) is fails = absurd is
+    folder_failed reading writing asked named data_fault.NoLog (fault.NoJournal text) is fails = refused_by asked named reading data_fault.NoLog (string_bytes text) fails is
+    folder_failed reading writing asked named (data_fault.Refused line) (fault.Failed why) is fails = lacks_memory reading writing why is (unbegun reading (data_fault.Refused line) (λ own view r. r) fails)
     folder_failed reading writing asked named (data_fault.Refused line) (fault.Refused text) is fails = absurd is
-    folder_failed reading writing asked named (data_fault.Refused line) (fault.NoJournal text) is fails =
-        record { tenants = tenants; age = age; ages = ages; sends = sends; folder = folder; sync = sync; asked = keeping asked named; line = line; refused = inl (fails, is) }
-    folder_failed reading writing asked named (data_fault.Otherwise line) (fault.Failed why) is fails = lacks_memory reading writing why is (unbegun fails)
+    folder_failed reading writing asked named (data_fault.Refused line) (fault.NoJournal text) is fails = refused_by asked named reading (data_fault.Refused line) (string_bytes text) fails is
+    folder_failed reading writing asked named (data_fault.Otherwise line) (fault.Failed why) is fails = lacks_memory reading writing why is (unbegun reading (data_fault.Otherwise line) (λ own view r. r) fails)
     folder_failed reading writing asked named (data_fault.Otherwise line) (fault.Refused text) is fails = absurd is
-    folder_failed reading writing asked named (data_fault.Otherwise line) (fault.NoJournal text) is fails =
-        record { tenants = tenants; age = age; ages = ages; sends = sends; folder = folder; sync = sync; asked = keeping asked named; line = line; refused = inr (fails, is) }
+    folder_failed reading writing asked named (data_fault.Otherwise line) (fault.NoJournal text) is fails = refused_by asked named reading (data_fault.Otherwise line) (string_bytes text) fails is
 
 -- ---- how lines that were served end
 

@@ -20,8 +20,10 @@ use Rattle.silo_words.specs.Tenants.{IsFirstRefused, NameTenants}
 use Rattle.line_commands.specs.Steps.{AnswersFrom, StopsFrom}
 use Rattle.command_parts.specs.Files.{FileClaims}
 use Rattle.line_commands.specs.Answering.{AnsweringFailsBy, AnswersLanes, WritesJournals}
-use Rattle.data_command.specs.Data.{AnswersData, DataFailsBy, DataLasts, HasInput, LogClaims}
-use Rattle.data_command.specs.Texts.{other_words_text, otherwise_text, refused_text as refused_line_text}
+use Rattle.data_command.specs.Data.{LogClaims}
+use Rattle.data_command.specs.Folder.{FolderAnswers, FolderFailsBy, FolderHas, FolderLasts}
+use Rattle.data_command.specs.Texts.{no_checkpoint_text, no_log_text, other_words_text, otherwise_text, refused_text as refused_line_text}
+use Rattle.data_command.specs.declared.fault.DataFault.{DataFault}
 use Rattle.data_command.specs.declared.fault.DataFault.TheVariants as data_fault
 use Rattle.serve_command.specs.Serving.{ServesLanes, ServingFailsBy, WritesServed}
 use Rattle.journal_commands.specs.Auditing.{AuditFailsBy, AuditsFile, RefusesFile}
@@ -254,8 +256,8 @@ pub record WritesAnswered (words : List Text) (files : FileClaims) (from : Optio
 
 -- ---- lines are answered at once, with a folder of data
 
--- The words name tenants and a folder. The lines of the input were answered at once for them, by a silo that is where the lines of the
--- folder's log lead; and the log has them, if replies are to wait for it.
+-- The words name tenants and a folder. The lines of the input were answered at once for them, by a silo that is where the folder's
+-- checkpoint and the lines of the log behind it lead; and the log has them, or a checkpoint in its place, if replies are to wait for it.
 pub record AnswersInFolder (words : List Text) (log : LogClaims) (from left before after : Option (List ℕ)) : Type 0 where
   pub tenants : Table
   pub age : ℕ
@@ -264,8 +266,8 @@ pub record AnswersInFolder (words : List Text) (log : LogClaims) (from left befo
   pub folder : Text
   pub sync : Bool
   pub asked : AskForKeeping words tenants age ages sends folder sync
-  pub answered : AnswersData (program_start tenants age ages) sends log from left before after
-  pub has : sync ≡ true → HasInput (program_start tenants age ages) sends log from
+  pub answered : FolderAnswers (program_start tenants age ages) sends log from left before after
+  pub has : sync ≡ true → FolderHas (program_start tenants age ages) sends log from
 
 -- The words name tenants and a folder, and answering the lines of the input at once for them failed.
 pub record FailsInFolder (words : List Text) (log : LogClaims) (why : Cause) (from left : Option (List ℕ)) (reading : Reading)
@@ -277,10 +279,10 @@ pub record FailsInFolder (words : List Text) (log : LogClaims) (why : Cause) (fr
   pub folder : Text
   pub sync : Bool
   pub asked : AskForKeeping words tenants age ages sends folder sync
-  pub failed : DataFailsBy (program_start tenants age ages) sends log (data_fault.Failed why) from left reading before after
+  pub failed : FolderFailsBy (program_start tenants age ages) sends log (data_fault.Failed why) from left reading before after
 
--- The words name tenants and a folder whose log was begun with other words, and that was said. Nothing was read and nothing written, and
--- the log is as it was.
+-- The words name tenants and a folder whose checkpoint or log has other words, and that was said. Nothing was read and nothing written,
+-- and both are as they were.
 pub record RefusesFolder (words : List Text) (log : LogClaims) (text : Text) (from left : Option (List ℕ)) (reading : Reading)
     (before after : Option (List ℕ)) : Type 0 where
   pub tenants : Table
@@ -290,11 +292,19 @@ pub record RefusesFolder (words : List Text) (log : LogClaims) (text : Text) (fr
   pub folder : Text
   pub sync : Bool
   pub asked : AskForKeeping words tenants age ages sends folder sync
-  pub refused : DataFailsBy (program_start tenants age ages) sends log data_fault.OtherWords from left reading before after
+  pub refused : FolderFailsBy (program_start tenants age ages) sends log data_fault.OtherWords from left reading before after
   pub said : text ≡ other_words_text
 
--- The words name tenants and a folder in whose log a line is refused, or answered otherwise than it was, and that was said. Nothing was
--- read and nothing written, and the log is as it was.
+-- what is said of a folder with which no silo goes on under the same words
+abbrev pub SaysFault : DataFault → Text → Type 0
+SaysFault data_fault.NoCheckpoint text = text ≡ no_checkpoint_text
+SaysFault data_fault.NoLog text = text ≡ no_log_text
+SaysFault (data_fault.Refused line) text = text ≡ refused_line_text line
+SaysFault (data_fault.Otherwise line) text = text ≡ otherwise_text line
+SaysFault why text = ⊥
+
+-- The words name tenants and a folder whose checkpoint is refused, or which lacks its log, or in whose log a line is refused, or answered
+-- otherwise than it was; and that was said. Nothing was read and nothing written, and the folder is as it was.
 pub record RefusesLog (words : List Text) (log : LogClaims) (text : Text) (from left : Option (List ℕ)) (reading : Reading)
     (before after : Option (List ℕ)) : Type 0 where
   pub tenants : Table
@@ -304,11 +314,9 @@ pub record RefusesLog (words : List Text) (log : LogClaims) (text : Text) (from 
   pub folder : Text
   pub sync : Bool
   pub asked : AskForKeeping words tenants age ages sends folder sync
-  pub line : ℕ
-  pub refused : (DataFailsBy (program_start tenants age ages) sends log (data_fault.Refused line) from left reading before after
-      × (text ≡ refused_line_text line))
-      ⊎ (DataFailsBy (program_start tenants age ages) sends log (data_fault.Otherwise line) from left reading before after
-      × (text ≡ otherwise_text line))
+  pub why : DataFault
+  pub refused : FolderFailsBy (program_start tenants age ages) sends log why from left reading before after
+  pub said : SaysFault why text
 
 -- The words name tenants and a folder. If replies are to wait for its log: at each moment, whatever a crash leaves of the log, all that was
 -- told is the beginning of what it answers.
@@ -320,7 +328,7 @@ pub record KeepsFolder (words : List Text) (log : LogClaims) : Type 0 where
   pub folder : Text
   pub sync : Bool
   pub asked : AskForKeeping words tenants age ages sends folder sync
-  pub lasts : sync ≡ true → DataLasts (program_start tenants age ages) sends log
+  pub lasts : sync ≡ true → FolderLasts (program_start tenants age ages) sends log
 
 -- ---- what files have
 

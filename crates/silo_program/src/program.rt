@@ -215,20 +215,20 @@ fn answer_in_folder<H: AllocGlobal + RandomSource, F: WholeFiles + DataFiles, R:
     requires fresh { IsFresh input.old.lines }
     ensures ended { (words : List Text) → AskForData words task.now.age (option_map (λ text. text.now) task.now.ages) task.now.sends
         task.now.folder.path.now task.now.folder.sync (map (λ text. text.now) task.now.arguments.now)
-        → IfOk result (λ end. (end ≡ End.Well) × AnswersInFolder words (log_claims F.begun F.acts F.failed files.old files.new)
+        → IfOk result (λ end. (end ≡ End.Well) × AnswersInFolder words (log_claims F.begun F.acts F.past F.failed files.old files.new)
         (R.remaining input.old.reader) (R.remaining input.new.reader) (W.contents output.old.writer) (W.contents output.new.writer)) }
     ensures unfailed { OnOk result (output.new.calls.failed ≡ output.old.calls.failed) }
     ensures out { OnOk result (output.old.calls.held ≡ false → output.new.calls.held ≡ false) }
     ensures fault { (words : List Text) → AskForData words task.now.age (option_map (λ text. text.now) task.now.ages) task.now.sends
         task.now.folder.path.now task.now.folder.sync (map (λ text. text.now) task.now.arguments.now)
         → IfErr result (λ why. IsFolderFault words (claims F.may_hold F.may_fail F.may_leave files.old files.new)
-        (log_claims F.begun F.acts F.failed files.old files.new) why
+        (log_claims F.begun F.acts F.past F.failed files.old files.new) why
         (R.remaining input.old.reader) (R.remaining input.new.reader) input.new.lines
         (W.contents output.old.writer) (W.contents output.new.writer) output.new.calls) }
     ensures journal { (words : List Text) → AskForData words task.now.age (option_map (λ text. text.now) task.now.ages) task.now.sends
         task.now.folder.path.now task.now.folder.sync (map (λ text. text.now) task.now.arguments.now)
         → LeavesFiles words (claims F.may_hold F.may_fail F.may_leave files.old files.new)
-        (log_claims F.begun F.acts F.failed files.old files.new) (R.remaining input.old.reader) (R.remaining input.new.reader) }
+        (log_claims F.begun F.acts F.past F.failed files.old files.new) (R.remaining input.old.reader) (R.remaining input.new.reader) }
 {
     let alloc = rt.alloc();
     let number = match random_number(rt) {
@@ -327,16 +327,16 @@ pub fn answer<
 ) -> Result<End, ProgramFault>
     requires { IsFresh input.old.lines }
     ensures ended { IfOk result (λ end. EndsAs end (texts_of words.now) (claims F.may_hold F.may_fail F.may_leave files.old files.new)
-        (log_claims F.begun F.acts F.failed files.old files.new)
+        (log_claims F.begun F.acts F.past F.failed files.old files.new)
         (R.remaining input.old.reader) (R.remaining input.new.reader) (W.contents output.old.writer) (W.contents output.new.writer)) }
     ensures unfailed { OnOk result (output.new.calls.failed ≡ output.old.calls.failed) }
     ensures out { OnOk result (output.old.calls.held ≡ false → output.new.calls.held ≡ false) }
     ensures fault { IfErr result (λ why. IsFaultOf (texts_of words.now) (claims F.may_hold F.may_fail F.may_leave files.old files.new)
-        (log_claims F.begun F.acts F.failed files.old files.new) why
+        (log_claims F.begun F.acts F.past F.failed files.old files.new) why
         (R.remaining input.old.reader) (R.remaining input.new.reader) input.new.lines
         (W.contents output.old.writer) (W.contents output.new.writer) output.new.calls) }
     ensures journal { LeavesFiles (texts_of words.now) (claims F.may_hold F.may_fail F.may_leave files.old files.new)
-        (log_claims F.begun F.acts F.failed files.old files.new) (R.remaining input.old.reader) (R.remaining input.new.reader) }
+        (log_claims F.begun F.acts F.past F.failed files.old files.new) (R.remaining input.old.reader) (R.remaining input.new.reader) }
 {
     let alloc = rt.alloc();
     let task = match read_words(alloc, words) {
@@ -438,20 +438,20 @@ pub fn run_program<
     // What the words request was done, and a report was written to the errors if they request one.
     ensures well { result ≡ 0 → (how : EndValue) × (how ≢ End.Differs)
         × EndsAs how (texts_of words.now) (claims F.may_hold F.may_fail F.may_leave files.old files.new)
-        (log_claims F.begun F.acts F.failed files.old files.new)
+        (log_claims F.begun F.acts F.past F.failed files.old files.new)
         (R.remaining input.old.reader) (R.remaining input.new.reader) (W.contents output.old.writer) (W.contents output.new.writer)
         × TellsEnd (E.contents errors.old.writer) (E.contents errors.new.writer) errors.new.calls how }
 
     // An audit was requested, and a tenant differs.
     ensures differs { result ≡ 3 → EndsAs End.Differs (texts_of words.now) (claims F.may_hold F.may_fail F.may_leave files.old files.new)
-        (log_claims F.begun F.acts F.failed files.old files.new)
+        (log_claims F.begun F.acts F.past F.failed files.old files.new)
         (R.remaining input.old.reader) (R.remaining input.new.reader) (W.contents output.old.writer) (W.contents output.new.writer) }
 
     // In every outcome no file was written, or the journal of no step was, to the path that was requested, and then
     // perhaps that of what was served or answered; or a folder of data is requested, and whatever a crash leaves of its
     // log at any moment, the replies that were written are the beginning of what that log answers.
     ensures journal { LeavesFiles (texts_of words.now) (claims F.may_hold F.may_fail F.may_leave files.old files.new)
-        (log_claims F.begun F.acts F.failed files.old files.new) (R.remaining input.old.reader) (R.remaining input.new.reader) }
+        (log_claims F.begun F.acts F.past F.failed files.old files.new) (R.remaining input.old.reader) (R.remaining input.new.reader) }
     ensures files { ((path : Text) → ¬ AskForJournal (texts_of words.now) path)
         → ((folder : Text) → ¬ AskForFolder (texts_of words.now) folder) → files.new ≡ files.old }
 
@@ -464,7 +464,7 @@ pub fn run_program<
     // The program failed, and what was written to the errors says why.
     ensures failed { result ≡ 1 → (why : Cause)
         × FailsBy (texts_of words.now) (claims F.may_hold F.may_fail F.may_leave files.old files.new)
-        (log_claims F.begun F.acts F.failed files.old files.new) why
+        (log_claims F.begun F.acts F.past F.failed files.old files.new) why
         (R.remaining input.old.reader) (R.remaining input.new.reader) input.new.lines
         (W.contents output.old.writer) (W.contents output.new.writer) output.new.calls
         × Tells (E.contents errors.old.writer) (E.contents errors.new.writer) errors.new.calls (failure_text why) }
@@ -472,7 +472,7 @@ pub fn run_program<
     // The arguments are refused, or the folder of data has a log of other words, and what was written to the errors
     // says why.
     ensures refused { result ≡ 2 → (text : Text) × ((AreRefusedBy (texts_of words.now) text × (files.new ≡ files.old))
-        ⊎ RefusesFolder (texts_of words.now) (log_claims F.begun F.acts F.failed files.old files.new) text
+        ⊎ RefusesFolder (texts_of words.now) (log_claims F.begun F.acts F.past F.failed files.old files.new) text
         (R.remaining input.old.reader) (R.remaining input.new.reader) input.new.lines
         (W.contents output.old.writer) (W.contents output.new.writer))
         × Tells (E.contents errors.old.writer) (E.contents errors.new.writer) errors.new.calls text }
@@ -486,7 +486,7 @@ pub fn run_program<
     ensures no_journal { result ≡ 4 → (text : Text)
         × (RefusesJournal (texts_of words.now) (claims F.may_hold F.may_fail F.may_leave files.old files.new) text
         (R.remaining input.old.reader) (R.remaining input.new.reader) (W.contents output.old.writer) (W.contents output.new.writer)
-        ⊎ RefusesLog (texts_of words.now) (log_claims F.begun F.acts F.failed files.old files.new) text
+        ⊎ RefusesLog (texts_of words.now) (log_claims F.begun F.acts F.past F.failed files.old files.new) text
         (R.remaining input.old.reader) (R.remaining input.new.reader) input.new.lines
         (W.contents output.old.writer) (W.contents output.new.writer))
         × Tells (E.contents errors.old.writer) (E.contents errors.new.writer) errors.new.calls text }

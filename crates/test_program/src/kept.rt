@@ -107,7 +107,8 @@ const GET: &str = concat!(
     "\n"
 );
 
-/// Asks a counter to add 3 over a new folder, and then what the words and the line say over what the first run left.
+/// Asks a counter to add 3 over a new folder, and then what the words and the line say over what the first run left: a checkpoint, and
+/// a log that goes on from it without a batch.
 fn again<H: AllocGlobal + RandomSource + Threads + Wait + Sync>(
     rt: &H,
     words: &str,
@@ -119,8 +120,13 @@ fn again<H: AllocGlobal + RandomSource + Threads + Wait + Sync>(
     if first.status != 0 {
         return Err(Fail::from("the first run failed"));
     }
+    if !folder.log.did.is_empty() {
+        return Err(Fail::from("no checkpoint took the log's place"));
+    }
     let bytes = bytes_in(alloc, &folder)?;
+    let point = folder.log.point.take();
     let mut folder = folder_of(alloc, Some(bytes));
+    folder.log.point = point;
     left_by(rt, words, line, &mut folder)
 }
 

@@ -3,7 +3,7 @@ use Rattle.line_protocol.proofs.ReadLines.{handed}
 use Rattle.line_protocol.proofs.Run.{nothing_ahead}
 use Rattle.line_protocol.proofs.TakenLines.{TakesPart-kept, TakesPart-none}
 use Rattle.log_answer.proofs.Left.{left_self, logs_on}
-use Rattle.log_answer.proofs.Going.{gathered_on, going_ends, going_full, going_goes, going_keeps, going_memory, going_moved, going_none, going_stops, lasts_ended, lasts_now, lasts_stopped, owns_ended, owns_now, owns_stopped}
+use Rattle.log_answer.proofs.Going.{gathered_on, going_ends, going_full, going_goes, going_keeps, going_memory, going_moved, going_none, going_stops, going_tables, lasts_ended, lasts_now, lasts_stopped, owns_ended, owns_now, owns_stopped}
 use Rattle.log_answer.proofs.Kept.{stops_behind, stops_commit}
 use Rattle.log_answer.proofs.running.answer_logged.Goals as goal
 
@@ -183,3 +183,11 @@ returns-then-not-branch-clause-out g c none = c.in_ok-take_next.ensures.out (c.l
 
 pub returns-clause-out : goal.returns-clause-out
 returns-clause-out g c none = c.in_ok-commit_batch.ensures.out (c.loop-count.invariant.6 none)
+
+-- the tenants are the same
+
+pub returns-then-not-branch-clause-tables : goal.returns-then-not-branch-clause-tables
+returns-then-not-branch-clause-tables g c = going_tables _ _ _ _ _ _ _ _ _ _ _ _ _ _ _ _ c.loop-count.invariant.0
+
+pub returns-clause-tables : goal.returns-clause-tables
+returns-clause-tables g c = going_tables _ _ _ _ _ _ _ _ _ _ _ _ _ _ _ _ c.loop-count.invariant.0

@@ -1,6 +1,7 @@
 use Rattle.std.proofs.lemmas.Result.{err_from_is_err_and}
 use Rattle.std.proofs.Common.{refl, subst, true, ◌≡◌}
-use Rattle.data_command.specs.Data.{DataFailsBy, DataLasts, log_claims}
+use Rattle.data_command.specs.Data.{log_claims}
+use Rattle.data_command.specs.Folder.{FolderFailsBy, FolderLasts}
 use Rattle.command_parts.specs.Setups.{Start}
 use Rattle.command_parts.specs.Files.{claims}
 use Rattle.silo_program.proofs.SeedLemmas.{not_numbered}
@@ -21,30 +22,30 @@ returns-in-Err-clause-fault g c words asked =
 pub returns-in-Err-answer_data-clause-fault : goal.returns-in-Err-answer_data-clause-fault
 returns-in-Err-answer_data-clause-fault g c words asked =
     let files = claims g.F.WholeFiles.may_hold g.F.WholeFiles.may_fail g.F.WholeFiles.may_leave c.args.files.now c.answer_data.new.files in
-    let log = log_claims g.F.LogHost.begun g.F.LogHost.acts g.F.LogHost.failed c.args.files.now c.answer_data.new.files in
+    let log = log_claims g.F.LogHost.begun g.F.LogHost.acts g.F.LogHost.past g.F.LogHost.failed c.args.files.now c.answer_data.new.files in
     let from = g.R.Read.remaining c.args.input.now.reader in
     let left = g.R.Read.remaining c.answer_data.new.input.reader in
     let before = g.W.Write.contents c.args.output.now.writer in
     let after = g.W.Write.contents c.answer_data.new.output.writer in
     folder_failed words files log from left _ _ _ _ _ _ _ _ before after _ _ asked c.in_ok-named.ensures.named c.in-Err-answer_data.fault _ c.explain_data.ensures
-    (subst (λ (s : Start). DataFailsBy s c.args.task.now.sends log c.in-Err-answer_data.fault from left c.answer_data.new.input.lines before after) c.start_of.ensures.starts c.in-Err-answer_data.ensures.fault)
+    (subst (λ (s : Start). FolderFailsBy s c.args.task.now.sends log c.in-Err-answer_data.fault from left c.answer_data.new.input.lines before after) c.start_of.ensures.starts c.in-Err-answer_data.ensures.fault)
 
 pub returns-in-Ok-answer_data-clause-journal : goal.returns-in-Ok-answer_data-clause-journal
 returns-in-Ok-answer_data-clause-journal g c words asked =
     let files = claims g.F.WholeFiles.may_hold g.F.WholeFiles.may_fail g.F.WholeFiles.may_leave c.args.files.now c.answer_data.new.files in
-    let log = log_claims g.F.LogHost.begun g.F.LogHost.acts g.F.LogHost.failed c.args.files.now c.answer_data.new.files in
+    let log = log_claims g.F.LogHost.begun g.F.LogHost.acts g.F.LogHost.past g.F.LogHost.failed c.args.files.now c.answer_data.new.files in
     let from = g.R.Read.remaining c.args.input.now.reader in
     let left = g.R.Read.remaining c.answer_data.new.input.reader in
     let sync = c.args.task.now.folder.sync in
     folder_left words files log from left _ _ _ _ sync _ _ _ asked c.in_ok-named.ensures.named
-    (subst (λ (s : Start). sync ≡ true → DataLasts s c.args.task.now.sends log) c.start_of.ensures.starts c.answer_data.ensures.lasts)
+    (subst (λ (s : Start). sync ≡ true → FolderLasts s c.args.task.now.sends log) c.start_of.ensures.starts c.answer_data.ensures.lasts)
 
 pub returns-in-Err-answer_data-clause-journal : goal.returns-in-Err-answer_data-clause-journal
 returns-in-Err-answer_data-clause-journal g c words asked =
     let files = claims g.F.WholeFiles.may_hold g.F.WholeFiles.may_fail g.F.WholeFiles.may_leave c.args.files.now c.answer_data.new.files in
-    let log = log_claims g.F.LogHost.begun g.F.LogHost.acts g.F.LogHost.failed c.args.files.now c.answer_data.new.files in
+    let log = log_claims g.F.LogHost.begun g.F.LogHost.acts g.F.LogHost.past g.F.LogHost.failed c.args.files.now c.answer_data.new.files in
     let from = g.R.Read.remaining c.args.input.now.reader in
     let left = g.R.Read.remaining c.answer_data.new.input.reader in
     let sync = c.args.task.now.folder.sync in
     folder_left words files log from left _ _ _ _ sync _ _ _ asked c.in_ok-named.ensures.named
-    (subst (λ (s : Start). sync ≡ true → DataLasts s c.args.task.now.sends log) c.start_of.ensures.starts c.answer_data.ensures.lasts)
+    (subst (λ (s : Start). sync ≡ true → FolderLasts s c.args.task.now.sends log) c.start_of.ensures.starts c.answer_data.ensures.lasts)

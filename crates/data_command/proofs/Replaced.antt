@@ -1,0 +1,81 @@
+-- A checkpoint takes the place of a log.
+use Rattle.std.proofs.Common.{◌≡◌, ◌∙◌, ℕ, List, [], Option, Some, inl, inr, sym, ap, subst}
+use Rattle.std.specs.Prelude.{◌⊎◌}
+use Rattle.std.proofs.lemmas.Option.{same_Some}
+use Rattle.grain_logic.specs.Logic.{Logic}
+use Rattle.silo_event.specs.declared.step.Step.{Step}
+use Rattle.silo_model.specs.Journal.{LeadsTo}
+use Rattle.silo_model.specs.Opening.{Setup, opening}
+use Rattle.silo_core.specs.History.{History}
+use Rattle.silo_core.specs.Reopening.{Reopens}
+use Rattle.log_text.specs.Head.{head_text}
+use Rattle.log_text.specs.Sums.{spelled}
+use Rattle.log_host.specs.Acts.{Act}
+use Rattle.log_host.specs.Files.{IsAt, MaySwitch, Past, Switches, with_log, with_point}
+use Rattle.silo_checkpoint.specs.Saved.{HasText, sum_in}
+use Rattle.command_parts.specs.Setups.{Start, Version, started}
+use Rattle.data_command.specs.Data.{LogView, Stands, StandsAt, TakesPlace, since}
+use Rattle.data_command.specs.Words.{head_words}
+use Rattle.data_command.specs.inside.Replacing.{AreTexts, MayBeReplaced}
+
+-- a silo without a step is at its opening
+pub at_opening : (logic : Logic) (h : History) → LeadsTo logic h.setup h.journal h.whole → h.journal ≡ [] → opening h.setup ≡ h.whole
+at_opening logic h leads none = same_Some (opening h.setup) h.whole (subst (λ (steps : List Step). LeadsTo logic h.setup steps h.whole) none leads)
+
+module _ (start : Start) (version : Version) (sends : ℕ) (words number : List ℕ) (old mid : LogView) (bytes : List ℕ) (acts : List Act) (was new : History)
+    (m : MayBeReplaced start version sends words number (since old mid) bytes acts was.whole) where
+  -- as it was
+  pub as_it_was : Stands start sends (since old mid) number bytes acts
+  as_it_was = inl (m.stands, m.past)
+
+  module _ (worded : words ≡ head_words (started version was.setup) sends) (reopened : Reopens was new) (at_start : opening new.setup ≡ new.whole) (text head : List ℕ)
+      (t : AreTexts version sends number new.setup words text head) where
+    same_words : head_words (started start.version new.setup) sends ≡ head_words start sends
+    same_words =
+        ap (λ (v : Version). head_words (started v new.setup) sends) m.same
+        ∙ ap (λ (s : Setup). head_words (started version s) sends) reopened.setup
+        ∙ sym worded ∙ m.worded
+
+    takes : TakesPlace start sends number bytes acts new.setup text
+    takes = record {
+      told = m.told;
+      says = subst (λ (v : Version). HasText text (record { follows = number; kinds = v.number; sends = sends; setup = new.setup })) (sym m.same) t.says;
+      opens = at_start ∙ reopened.whole ∙ m.leads;
+      words = same_words;
+      other = t.other;
+    }
+
+    next_head : head ≡ head_text (head_words start sends) (spelled (sum_in text))
+    next_head = t.headed ∙ ap (λ (ws : List ℕ). head_text ws (spelled (sum_in text))) m.worded
+
+    module _ (after : LogView) where
+      replaced : IsAt after.acts after.begun (Some head) × (after.past ≡ with_log mid.past text mid.begun acts) → Stands start sends (since old after) number bytes acts
+      replaced s = inr (inr (record {
+        next = new.setup;
+        point = text;
+        takes = takes;
+        past = s.1 ∙ ap (λ (p : Past). with_log p text mid.begun acts) m.past ∙ ap (λ (o : Option (List ℕ)). with_log old.past text o acts) m.stands.begun;
+        at = (s.0.0, s.0.1 ∙ ap Some next_head);
+      }))
+
+      pub switched : Switches mid.acts mid.begun mid.past after.acts after.begun after.past text head → Stands start sends (since old after) number bytes acts
+      switched s = replaced (s acts m.stands.acts_are)
+
+      pub switched_or_not : MaySwitch mid.acts mid.begun mid.past after.acts after.begun after.past text head → Stands start sends (since old after) number bytes acts
+      switched_or_not may = by (may acts m.stands.acts_are)
+        where
+          stands : after.acts ≡ mid.acts → after.begun ≡ mid.begun → StandsAt start sends (since old after) number bytes acts
+          stands same kept = record { begun = kept ∙ m.stands.begun; acts_are = same ∙ m.stands.acts_are }
+
+          by : ((after.acts ≡ mid.acts) × (after.begun ≡ mid.begun) × ((after.past ≡ mid.past) ⊎ (after.past ≡ with_point mid.past text)))
+              ⊎ (IsAt after.acts after.begun (Some head) × (after.past ≡ with_log mid.past text mid.begun acts))
+              → Stands start sends (since old after) number bytes acts
+          by (inl (same, kept, inl past)) = inl (stands same kept, past ∙ m.past)
+          by (inl (same, kept, inr past)) = inr (inl (record {
+            stands = stands same kept;
+            next = new.setup;
+            point = text;
+            takes = takes;
+            past = past ∙ ap (λ (p : Past). with_point p text) m.past;
+          }))
+          by (inr s) = replaced s

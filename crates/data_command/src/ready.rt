@@ -1,0 +1,313 @@
+//! The silo with which a folder of data is gone on with.
+
+ghost use Rattle.std.specs.Prelude.{◌≡◌, ◌↔◌, ◌⊎◌, [], false, true, IfErr, IfOk, IfSome, IsTrue, None, Ok, OnErr, OnOk, Some, option_map};
+ghost use Rattle.silo_model.specs.Opening.{opening};
+ghost use Rattle.grain_storage.specs.Memory.{AreVersioned, IsAscending};
+ghost use Rattle.silo_state.specs.KeptParts.{MayResume};
+ghost use Rattle.log_text.specs.Head.{head_text};
+ghost use Rattle.log_text.specs.Sums.{spelled};
+ghost use Rattle.log_host.specs.Files.{Begins, MayBegin};
+ghost use Rattle.silo_checkpoint.specs.Answers.{saved_in};
+ghost use Rattle.command_parts.specs.Setups.{setup_of, started, starting, version_of};
+ghost use Rattle.data_command.specs.Data.{LogView, log_view, since};
+ghost use Rattle.data_command.specs.Folder.{FolderLasts, OpeningFailsBy, OpensAt};
+ghost use Rattle.data_command.specs.Words.{head_words};
+ghost use Rattle.data_command.specs.inside.Ready.{HasFound, HasNumber, IsReady, IsWrongLog, SaysWords};
+
+use crate::fault::DataFault;
+use crate::found::Found;
+use crate::head::head_words;
+use crate::opening::DataOpening;
+use crate::starting::{LogTask, count_lines, is_same};
+use command_parts::{Cause, DataFiles, Start, new_silo};
+use grain_logic::GrainLogic;
+use grain_storage::MemoryStorage;
+use line_answer::AnsweringSilo;
+use log_text::{cut_head, is_log, push_head, spell};
+use silo_checkpoint::{CheckpointFault, Saved, read_saved, sum_of};
+use silo_core::Setup;
+use std::alloc::{AllocError, Global};
+
+/// A silo that needn't keep its history, and what its log is begun or continued with.
+#[derive(Drop)]
+pub(crate) struct ReadySilo<L: GrainLogic> {
+    pub(crate) silo: AnsweringSilo<MemoryStorage, L>,
+    pub(crate) task: LogTask,
+}
+
+/// A silo over no rows that answers lines, and needn't keep its history.
+fn dropping_silo<L: GrainLogic + Drop>(
+    alloc: Global,
+    start: Start<L>,
+) -> Result<AnsweringSilo<MemoryStorage, L>, AllocError>
+    ensures setup { IfOk result (λ s. s.history.setup ≡ setup_of start.tenants start.age start.ages) }
+    ensures opened { IfOk result (λ s. s.history.whole ≡ opening s.history.setup) }
+    ensures ready { IfOk result (λ s. s.stopped ≡ false) }
+    ensures drops { IfOk result (λ s. s.keeps ≡ false) }
+{
+    let mut silo = new_silo(alloc, start)?;
+    silo.drop_history();
+    Ok(silo)
+}
+
+/// A silo that goes on from what a checkpoint says, and needn't keep its history; none if it says what no silo can go on with.
+fn saved_silo<L: GrainLogic + Drop>(
+    alloc: Global,
+    start: Start<L>,
+    saved: Saved<'_>,
+) -> Result<Option<AnsweringSilo<MemoryStorage, L>>, AllocError>
+    requires ascending { IsAscending saved.rows.items }
+    requires versioned { AreVersioned saved.rows.items }
+    ensures setup { IfOk result (λ found. IfSome found (λ s. s.history.setup ≡ (saved_in saved.entry).setup)) }
+    ensures opened { IfOk result (λ found. IfSome found (λ s. s.history.whole ≡ opening s.history.setup)) }
+    ensures ready { IfOk result (λ found. IfSome found (λ s. s.stopped ≡ false)) }
+    ensures drops { IfOk result (λ found. IfSome found (λ s. s.keeps ≡ false)) }
+    ensures none { result ≡ Ok None → MayResume L.logic saved.entry.kept → ⊥ }
+{
+    let seed = start.seed;
+    let setup = Setup {
+        tenants: saved.tenants,
+        age: saved.age,
+        ages: saved.ages,
+        storage: MemoryStorage::seeded_with_rows(alloc, saved.rows, seed)?,
+        logic: start.logic,
+    };
+    let Some(mut silo) = AnsweringSilo::resumed(alloc, setup, saved.kept, seed)? else {
+        return Ok(None);
+    };
+    silo.drop_history();
+    Ok(Some(silo))
+}
+
+/// Whether the checkpoint says the number of that logic, this number of deliveries, and these words.
+fn says_words(
+    alloc: Global,
+    saved: &Saved<'_>,
+    kinds: u8,
+    sends: u64,
+    words: &[u8],
+) -> Result<bool, AllocError>
+    ensures { IfOk result (λ same. IsTrue same ↔ SaysWords (saved_in saved.now) kinds sends words.now) }
+{
+    let own = head_words(
+        alloc,
+        saved.kinds,
+        saved.sends,
+        saved.age,
+        &saved.ages,
+        &saved.tenants,
+    )?;
+    Ok(saved.kinds == kinds && saved.sends == sends && is_same(own.as_slice(), words))
+}
+
+/// Whether the log that stands beside a checkpoint goes on from it, and has its number; or whether it is the one whose place the
+/// checkpoint takes.
+fn is_own_log(words: &[u8], number: u64, follows: &str, log: &[u8]) -> Result<bool, DataFault>
+    ensures own { result ≡ Ok true → HasNumber words.now (spelled number) log.now }
+    ensures old { result ≡ Ok false → HasNumber words.now follows.now log.now }
+    ensures fault { IfErr result (λ why. IsWrongLog words.now (spelled number) follows.now log.now why) }
+{
+    let Some((digits, behind)) = cut_head(words, log) else {
+        if is_log(log) {
+            return Err(DataFault::OtherWords);
+        }
+        return Err(DataFault::Refused(1));
+    };
+    if is_same(digits, spell(number).as_slice()) {
+        return Ok(true);
+    }
+    if is_same(digits, follows.as_bytes()) {
+        return Ok(false);
+    }
+    Err(DataFault::Refused(count_lines(&log[..log.len() - behind.len()])))
+}
+
+/// The bytes of a new log of this number, which is begun in the place of the one that is there.
+fn new_log<F: DataFiles>(
+    alloc: Global,
+    files: &mut F,
+    words: &[u8],
+    number: u64,
+) -> Result<Vec<u8>, DataFault>
+    ensures log { IfOk result (λ log. log.items ≡ head_text words.now (spelled number)) }
+    ensures begun { OnOk result (Begins (F.acts files.old) (F.acts files.new) (F.begun files.new) (head_text words.now (spelled number))) }
+    ensures err { OnErr result (MayBegin (F.acts files.old) (F.begun files.old) (F.acts files.new) (F.begun files.new)
+        (head_text words.now (spelled number))) }
+    ensures acts { F.acts files.new ≡ F.acts files.old }
+    ensures past { F.past files.new ≡ F.past files.old }
+    ensures fault { IfErr result (λ why. (why ≡ DataFault.Failed Cause.Memory)
+        ⊎ ((why ≡ DataFault.Failed Cause.Write) × (F.failed files.new ≡ true))) }
+{
+    let mut head = Vec::new(alloc);
+    push_head(&mut head, words, number)?;
+    match files.begin(head.as_slice()) {
+        Ok(()) => Ok(head),
+        Err(_) => Err(DataFault::Failed(Cause::Write)),
+    }
+}
+
+/// The silo that starts with what the words say.
+fn new_ready<L: GrainLogic + Drop>(
+    alloc: Global,
+    opening: DataOpening<L>,
+    words: Vec<u8>,
+    log: Option<Vec<u8>>,
+) -> Result<ReadySilo<L>, DataFault>
+    requires { words.items ≡ head_words
+        (starting (version_of L.logic opening.start.kinds) opening.start.tenants opening.start.age opening.start.ages) opening.sends }
+    ensures setup { IfOk result (λ r. r.silo.history.setup ≡ setup_of opening.start.tenants opening.start.age opening.start.ages) }
+    ensures ready { IfOk result (λ r. (now : LogView) → (now.acts ≡ Some [] → now.begun ≡ option_map (λ bytes. bytes.items) log)
+        → IsReady (version_of L.logic opening.start.kinds) opening.sends now r.silo.history r.silo.stopped r.silo.keeps r.task) }
+    ensures fault { IfErr result (λ why. why ≡ DataFault.Failed Cause.Memory) }
+{
+    let task = LogTask {
+        words,
+        kinds: opening.start.kinds,
+        number: opening.number,
+        sends: opening.sends,
+        sync: false,
+        log,
+    };
+    let silo = dropping_silo(alloc, opening.start)?;
+    Ok(ReadySilo { silo, task })
+}
+
+/// The silo, with a new log in the place of the one that is there.
+fn begun_anew<L: GrainLogic + Drop, F: DataFiles>(
+    alloc: Global,
+    files: &mut F,
+    silo: AnsweringSilo<MemoryStorage, L>,
+    task: LogTask,
+) -> Result<ReadySilo<L>, DataFault>
+    ensures silo { IfOk result (λ r. r.silo ≡ silo) }
+    ensures task { IfOk result (λ r. r.task.words ≡ task.words × (r.task.kinds ≡ task.kinds) × (r.task.sends ≡ task.sends)
+        × (option_map (λ bytes. bytes.items) r.task.log ≡ Some (head_text task.words.items (spelled task.number)))) }
+    ensures begun { OnOk result (Begins (F.acts files.old) (F.acts files.new) (F.begun files.new)
+        (head_text task.words.items (spelled task.number))) }
+    ensures err { OnErr result (MayBegin (F.acts files.old) (F.begun files.old) (F.acts files.new) (F.begun files.new)
+        (head_text task.words.items (spelled task.number))) }
+    ensures acts { F.acts files.new ≡ F.acts files.old }
+    ensures past { F.past files.new ≡ F.past files.old }
+    ensures fault { IfErr result (λ why. (why ≡ DataFault.Failed Cause.Memory)
+        ⊎ ((why ≡ DataFault.Failed Cause.Write) × (F.failed files.new ≡ true))) }
+{
+    let head = match new_log(alloc, files, task.words.as_slice(), task.number) {
+        Ok(head) => head,
+        Err(why) => return Err(why),
+    };
+    let LogTask {
+        words,
+        kinds,
+        number,
+        sends,
+        sync,
+        log,
+    } = task;
+    drop(log);
+    Ok(ReadySilo {
+        silo,
+        task: LogTask {
+            words,
+            kinds,
+            number,
+            sends,
+            sync,
+            log: Some(head),
+        },
+    })
+}
+
+/// The silo that goes on from what the checkpoint says.
+fn saved_ready<L: GrainLogic + Drop, F: DataFiles>(
+    alloc: Global,
+    files: &mut F,
+    opening: DataOpening<L>,
+    words: Vec<u8>,
+    log: Option<Vec<u8>>,
+    point: &[u8],
+) -> Result<ReadySilo<L>, DataFault>
+    requires { words.items ≡ head_words (starting (version_of L.logic opening.start.kinds) opening.start.tenants opening.start.age
+        opening.start.ages) opening.sends }
+    ensures ready { IfOk result (λ r. (old : LogView) → HasFound old (log_view F.begun F.acts F.past F.failed files.old)
+        (option_map (λ bytes. bytes.items) log) (Some point.now)
+        → IsReady (version_of L.logic opening.start.kinds) opening.sends
+        (log_view F.begun F.acts F.past F.failed files.new) r.silo.history r.silo.stopped r.silo.keeps r.task) }
+    ensures opens { IfOk result (λ r. (old : LogView) → HasFound old (log_view F.begun F.acts F.past F.failed files.old)
+        (option_map (λ bytes. bytes.items) log) (Some point.now)
+        → OpensAt (starting (version_of L.logic opening.start.kinds) opening.start.tenants opening.start.age
+        opening.start.ages) opening.sends old
+        (log_view F.begun F.acts F.past F.failed files.new) (started (version_of L.logic opening.start.kinds) r.silo.history.setup)) }
+    ensures fault { IfErr result (λ why. (old : LogView) → HasFound old (log_view F.begun F.acts F.past F.failed files.old)
+        (option_map (λ bytes. bytes.items) log) (Some point.now)
+        → OpeningFailsBy (starting (version_of L.logic opening.start.kinds) opening.start.tenants opening.start.age
+        opening.start.ages) opening.sends (since old (log_view F.begun F.acts F.past F.failed files.new)) why) }
+    ensures lasts { OnErr result ((old : LogView) → HasFound old (log_view F.begun F.acts F.past F.failed files.old)
+        (option_map (λ bytes. bytes.items) log) (Some point.now)
+        → FolderLasts (starting (version_of L.logic opening.start.kinds) opening.start.tenants opening.start.age
+        opening.start.ages) opening.sends (since old (log_view F.begun F.acts F.past F.failed files.new))) }
+{
+    let saved = match read_saved(alloc, point) {
+        Ok(saved) => saved,
+        Err(CheckpointFault::NoCheckpoint) => return Err(DataFault::NoCheckpoint),
+        Err(CheckpointFault::Memory) => return Err(DataFault::Failed(Cause::Memory)),
+    };
+    let (kinds, sends) = (opening.start.kinds, opening.sends);
+    if !says_words(alloc, &saved, kinds, sends, words.as_slice())? {
+        return Err(DataFault::OtherWords);
+    }
+    let Some(found) = log else {
+        return Err(DataFault::NoLog);
+    };
+    let number = sum_of(point);
+    let is_own = is_own_log(words.as_slice(), number, saved.follows, found.as_slice())?;
+    let Some(silo) = saved_silo(alloc, opening.start, saved)? else {
+        return Err(DataFault::NoCheckpoint);
+    };
+    let task = LogTask {
+        words,
+        kinds,
+        number,
+        sends,
+        sync: false,
+        log: Some(found),
+    };
+    if is_own {
+        return Ok(ReadySilo { silo, task });
+    }
+    begun_anew(alloc, files, silo, task)
+}
+
+/// The silo that goes on with what the folder has, which is open.
+pub(crate) fn ready_silo<L: GrainLogic + Drop, F: DataFiles>(
+    alloc: Global,
+    files: &mut F,
+    opening: DataOpening<L>,
+    words: Vec<u8>,
+    found: Found,
+) -> Result<ReadySilo<L>, DataFault>
+    requires { words.items ≡ head_words (starting (version_of L.logic opening.start.kinds) opening.start.tenants opening.start.age
+        opening.start.ages) opening.sends }
+    ensures ready { IfOk result (λ r. (old : LogView) → HasFound old (log_view F.begun F.acts F.past F.failed files.old)
+        (option_map (λ bytes. bytes.items) found.log) (option_map (λ bytes. bytes.items) found.point)
+        → IsReady (version_of L.logic opening.start.kinds) opening.sends
+        (log_view F.begun F.acts F.past F.failed files.new) r.silo.history r.silo.stopped r.silo.keeps r.task) }
+    ensures opens { IfOk result (λ r. (old : LogView) → HasFound old (log_view F.begun F.acts F.past F.failed files.old)
+        (option_map (λ bytes. bytes.items) found.log) (option_map (λ bytes. bytes.items) found.point)
+        → OpensAt (starting (version_of L.logic opening.start.kinds) opening.start.tenants opening.start.age
+        opening.start.ages) opening.sends old
+        (log_view F.begun F.acts F.past F.failed files.new) (started (version_of L.logic opening.start.kinds) r.silo.history.setup)) }
+    ensures fault { IfErr result (λ why. (old : LogView) → HasFound old (log_view F.begun F.acts F.past F.failed files.old)
+        (option_map (λ bytes. bytes.items) found.log) (option_map (λ bytes. bytes.items) found.point)
+        → OpeningFailsBy (starting (version_of L.logic opening.start.kinds) opening.start.tenants opening.start.age
+        opening.start.ages) opening.sends (since old (log_view F.begun F.acts F.past F.failed files.new)) why) }
+    ensures lasts { OnErr result ((old : LogView) → HasFound old (log_view F.begun F.acts F.past F.failed files.old)
+        (option_map (λ bytes. bytes.items) found.log) (option_map (λ bytes. bytes.items) found.point)
+        → FolderLasts (starting (version_of L.logic opening.start.kinds) opening.start.tenants opening.start.age
+        opening.start.ages) opening.sends (since old (log_view F.begun F.acts F.past F.failed files.new))) }
+{
+    let Found { log, point } = found;
+    match point {
+        None => new_ready(alloc, opening, words, log),
+        Some(point) => saved_ready(alloc, files, opening, words, log, point.as_slice()),
+    }
+}

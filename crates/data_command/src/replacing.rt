@@ -1,0 +1,88 @@
+//! A checkpoint that takes the place of a log.
+
+ghost use Rattle.std.specs.Prelude.{◌≡◌, ◌⊎◌, false, ℕ, List, true, IfErr, IfOk, IfSome, OnOk};
+ghost use Rattle.log_host.specs.Acts.{Act};
+ghost use Rattle.command_parts.specs.Setups.{Start, started, version_of};
+ghost use Rattle.data_command.specs.Data.{LogView, Stands, log_view, since};
+ghost use Rattle.data_command.specs.Words.{head_words};
+ghost use Rattle.data_command.specs.inside.Replacing.{AreTexts, MayBeReplaced};
+
+use crate::starting::{LogTask, is_same};
+use command_parts::{Cause, DataFiles};
+use grain_logic::GrainLogic;
+use grain_storage::MemoryStorage;
+use line_answer::AnsweringSilo;
+use log_text::{push_head, spell};
+use silo_checkpoint::{save, sum_of};
+use std::alloc::{AllocError, Global};
+
+/// The text of a checkpoint that says what the silo has, and the head of the log that goes on from it; none if no checkpoint can say it,
+/// or if the new log would have the number of the old one.
+fn texts_of<L: GrainLogic>(
+    alloc: Global,
+    silo: &AnsweringSilo<MemoryStorage, L>,
+    task: &LogTask,
+    number: &[u8],
+) -> Result<Option<(Vec<u8>, Vec<u8>)>, AllocError>
+    ensures { IfOk result (λ found. IfSome found (λ texts. AreTexts (version_of L.logic task.now.kinds) task.now.sends number.now
+        silo.now.history.setup task.now.words.items texts.0.items texts.1.items)) }
+{
+    let Ok(follows) = str::from_utf8(number) else {
+        return Ok(None);
+    };
+    let Some(text) = save(alloc, silo.silo(), task.kinds, follows, task.sends)? else {
+        return Ok(None);
+    };
+    let next = sum_of(text.as_slice());
+    if is_same(spell(next).as_slice(), number) {
+        return Ok(None);
+    }
+    let mut head = Vec::new(alloc);
+    push_head(&mut head, task.words.as_slice(), next)?;
+    Ok(Some((text, head)))
+}
+
+/// Has all that the silo has in a checkpoint in the place of the log of that number, and begins a log that goes on from it, without a
+/// batch. The silo's history is dropped. Nothing is done to the folder if no checkpoint can say what the silo has.
+///
+/// # Errors
+///
+/// `Memory`, and then nothing was done to the folder; `Write` if a call at it failed.
+pub(crate) fn replace_log<F: DataFiles, L: GrainLogic>(
+    alloc: Global,
+    files: &mut F,
+    silo: &mut AnsweringSilo<MemoryStorage, L>,
+    task: &LogTask,
+    number: &[u8],
+) -> Result<(), Cause>
+    requires ready { silo.old.stopped ≡ false }
+    requires words { task.now.words.items ≡ head_words
+        (started (version_of L.logic task.now.kinds) silo.old.history.setup) task.now.sends }
+
+    // However it ends, all that was told stands: the log is as it was, or the checkpoint has all of it.
+    ensures stands { (start : Start) (old : LogView) (bytes : List ℕ) (acts : List Act)
+        → MayBeReplaced start (version_of L.logic task.now.kinds) task.now.sends task.now.words.items number.now
+        (since old (log_view F.begun F.acts F.past F.failed files.old)) bytes acts silo.old.history.whole
+        → Stands start task.now.sends (since old (log_view F.begun F.acts F.past F.failed files.new)) number.now bytes acts }
+    ensures fault { IfErr result (λ why. (why ≡ Cause.Memory) ⊎ ((why ≡ Cause.Write) × (F.failed files.new ≡ true))) }
+    ensures unfailed { OnOk result (F.failed files.new ≡ F.failed files.old) }
+{
+    // For the proof: where the silo's journal leads, and that all is idle.
+    let _ = silo.journal();
+    let Ok(true) = silo.reopen(alloc) else {
+        return Err(Cause::Memory);
+    };
+    // For the proof: that its journal has no step now.
+    let _ = silo.journal();
+    let texts = match texts_of(alloc, silo, task, number) {
+        Ok(texts) => texts,
+        Err(_) => return Err(Cause::Memory),
+    };
+    let Some((text, head)) = texts else {
+        return Ok(());
+    };
+    match files.switch(text.as_slice(), head.as_slice()) {
+        Ok(()) => Ok(()),
+        Err(_) => Err(Cause::Write),
+    }
+}
