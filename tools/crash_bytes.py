@@ -38,8 +38,8 @@ class SmallLog:
     def __init__(self, behind: int = 0) -> None:
         self.story = Story(["red:2:4"], [line for batch in BATCHES for line in batch])
         first = sum(map(len, BATCHES[:behind]))
-        self.story.points.add(first)
-        self.point = self.story.point(first, "0123456789abcdef") if behind else None
+        self.point = self.story.point(first, b"0123456789abcdef") if behind else None
+        self.story.points |= {self.point: first} if behind else {}
         writer = Writer(self.story.said, sum_of(self.point) if self.point else 0x0123456789ABCDEF)
         self.ends = [len(writer.text)]
         for batch in BATCHES[behind:]:

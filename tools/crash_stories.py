@@ -1,19 +1,24 @@
-"""What a silo of data is asked in a trial, what the slow silo tells of it, and what has to hold of a folder that a crash left."""
+"""What a silo of data is asked in a trial, what the slow silo tells of it, and what has to hold of a folder that a crash left.
+
+Which checkpoints a life makes is told by its lines alone: of each, behind which line, the log that it follows, and so all of its bytes.
+"""
 
 from __future__ import annotations
 
 import functools
 import re
 from random import Random
-from typing import NamedTuple, Optional
+from typing import Callable, NamedTuple, Optional, Sequence
 
 import answer_input
 from slow_silo.answer import DEFAULT_SENDS
-from slow_silo.checkpoint import LOOSE, Checkpoint, CheckpointRefused, checkpoint_of, checkpoint_text, read_checkpoint, sum_of
-from slow_silo.log import NotALog, OtherWords, Read, Words, cut_head, head_with, read_log, spelled
+from slow_silo.checkpoint import Checkpoint, checkpoint_of, checkpoint_text, sum_of
+from slow_silo.folder_texts import replaced_behind
+from slow_silo.log import DIGITS, NotALog, OtherWords, Read, Words, cut_head, head_with, read_log, spelled
 from slow_silo.logged import text_of, words_of
-from slow_silo.program import OPTIONS, setup_of, split_words
+from slow_silo.program import FLAGS, OPTIONS, setup_of, split_words
 from slow_silo.silo import Silo
+from slow_silo.switched import MOST_LOG
 
 # grains whose values are looked at behind a crash, at most
 MOST_LOOKED_AT = 8
@@ -28,25 +33,40 @@ class Data(NamedTuple):
     checkpoint: Optional[bytes] = None
 
 
+class Leads(NamedTuple):
+    """Where data lead: behind how many of a story's lines, and on which log a start goes on; none if on a new one of a random number."""
+
+    lines: int
+    number: Optional[bytes]
+    # how many of the lines are in a checkpoint: a start makes one of the others
+    point: int
+
+
+NOTHING = Leads(0, None, 0)
+
+
 class Life(NamedTuple):
     """A run of the program: what it was told and told, and the data before and after it."""
 
-    # how many lines of the story the data had
-    had: int
+    # where the data before it led
+    begun: Leads
     # what it told, on both streams, and its status
     out: bytes
     errors: bytes
     status: int
     left: Data
 
+    @property
+    def had(self) -> int:
+        """How many lines of the story the data had."""
+        return self.begun.lines
 
-class Leads(NamedTuple):
-    """Where data lead: behind how many of a story's lines, and on which log a start goes on; none if on a new one of a random number."""
 
-    lines: int
-    number: Optional[bytes]
-    # how many of the lines are in a checkpoint
-    point: int
+class Made(NamedTuple):
+    """A checkpoint of a life, and behind how many of the lines that it is asked it is made."""
+
+    place: int
+    text: bytes
 
 
 class Wrong(Exception):
@@ -56,15 +76,17 @@ class Wrong(Exception):
 class Story:
     """Lines, the words that the silo is given, and what it tells: for each line, and of itself behind so many of them."""
 
-    def __init__(self, words: list[str], lines: list[bytes]):
+    def __init__(self, words: list[str], lines: list[bytes], room: int = MOST_LOG):
         self.words, self.lines = words, lines
-        given, tenants = split_words(words, OPTIONS["answer"], [])
+        # bytes of lines for which there is room in a log
+        self.room = room
+        given, tenants = split_words(words, OPTIONS["answer"], FLAGS["answer"])
         self.setup = setup_of(given, tenants)
         self.most = int(given.get("--sends", DEFAULT_SENDS))
         self.said: Words = words_of(self.setup, self.most)
         self.probe = self.looks()
-        # behind how many lines there may be a checkpoint: all of them were asked, unless a trial begins with one
-        self.points = {len(lines)}
+        # behind how many lines each checkpoint is that there may be: those of the lives so far, and those with which a trial begins
+        self.points: dict[bytes, int] = {}
         silo = Silo(self.setup)
         self.texts = [text_of(silo, line, self.most) for line in lines]
 
@@ -102,17 +124,37 @@ class Story:
         return b"".join(text_of(silo, line, self.most) for line in self.probe)
 
     @functools.lru_cache(maxsize=None)
-    def kept(self, count: int, is_looked_at: bool = False) -> Checkpoint:
-        """What a checkpoint has behind so many lines, and perhaps behind the looks then."""
+    def kept(self, count: int, looks: int = 0) -> Checkpoint:
+        """What a checkpoint has behind so many lines, and then behind so many looks."""
         silo = self.silo_behind(count)
-        for line in self.probe if is_looked_at else ():
+        for line in self.probe[:looks]:
             text_of(silo, line, self.most)
         return checkpoint_of(silo, "", self.most)
 
-    def point(self, count: int, follows: str) -> bytes:
+    def point(self, count: int, follows: bytes, looks: int = 0) -> bytes:
         """The checkpoint behind so many lines, which follows the log of this number."""
-        return checkpoint_text(self.kept(count)._replace(follows=follows))
+        return checkpoint_text(self.kept(count, looks)._replace(follows=follows.decode()))
 
+    def made(self, begun: Leads, asked: Sequence[bytes], point: Callable[[int, bytes], bytes]) -> list[Made]:
+        """The checkpoints of a life that begins there, if it comes to the end of these lines. That of a random number follows zeros."""
+        number, found = begun.number or b"0" * DIGITS, []
+
+        def length_at(place: int) -> int:
+            nonlocal number
+            found.append(Made(place, point(place, number)))
+            number = spelled(sum_of(found[-1].text))
+            return len(found[-1].text)
+
+        places = list(replaced_behind(asked, self.room, begun.lines > begun.point, length_at))
+        assert places == [it.place for it in found]
+        return found
+
+    @functools.lru_cache(maxsize=None)
+    def made_on(self, begun: Leads) -> list[Made]:
+        """The checkpoints of a life that begins there, and is asked all other lines."""
+        return self.made(begun, self.lines[begun.lines:], lambda place, number: self.point(begun.lines + place, number))
+
+    @functools.lru_cache(maxsize=8)
     def has_read(self, content: Optional[bytes]) -> Read:
         """What a log reads as; one that isn't there has nothing."""
         return Read((), 0, None) if content is None else read_log(self.said, content)
@@ -122,14 +164,14 @@ class Story:
         if left.log is None:
             if left.checkpoint is not None:
                 raise Wrong("there is a checkpoint, and no log")
-            return Leads(0, None, 0)
+            return NOTHING
         try:
             read, number = self.has_read(left.log), cut_head(self.said, left.log)[0]
         except (NotALog, OtherWords) as fault:
             raise Wrong(f"there is no log of its words: {fault!r}") from fault
         if read.fault is not None:
             raise Wrong(f"the log is refused at line {read.fault}")
-        lines, point, follows = lines_of(read), *self.point_in(left.checkpoint)
+        lines, (point, follows) = lines_of(read), self.point_in(left.checkpoint)
         own = number if left.checkpoint is None else spelled(sum_of(left.checkpoint))
         if number not in (own, follows):
             raise Wrong("the log is neither the checkpoint's own nor the one that it replaced")
@@ -143,17 +185,21 @@ class Story:
         """Behind how many lines the checkpoint is, and which log it follows; or Wrong."""
         if text is None:
             return 0, None
-        try:
-            found = read_checkpoint(text, LOOSE)
-        except CheckpointRefused as refusal:
-            raise Wrong(f"the checkpoint is refused at line {refusal.line}") from refusal
-        for count in self.points:
-            if self.point(count, found.follows) == text:
-                return count, found.follows.encode()
-        raise Wrong("the checkpoint isn't that of the lines")
+        if text not in self.points:
+            raise Wrong(f"no checkpoint has to be there that is {text!r:.300}")
+        return self.points[text], follows_in(text)
+
+    def note_points(self, life: Life) -> None:
+        """Notes which checkpoints it may have left. Which one follows a random number is known by that number."""
+        left = life.left.checkpoint
+        for place, text in self.made_on(life.begun):
+            if life.begun.number is None and left is not None:
+                text = self.point(place, follows_in(left))
+            self.points[text] = life.had + place
 
     def fault_of_life(self, life: Life) -> Optional[str]:
         """What is wrong with what a life told, by the data that it left."""
+        self.note_points(life)
         try:
             found = self.leads(life.left)
         except Wrong as fault:
@@ -166,11 +212,13 @@ class Story:
             return f"there is a checkpoint of {found.point} lines, and it told {life.out[-200:]!r} last"
         return None
 
-    def fault_of_all(self, left: Data) -> Optional[str]:
-        """What is wrong with the data behind all lines: there is a checkpoint of them, and a log without a batch."""
-        found = self.leads(left)
+    def fault_of_all(self, life: Life) -> Optional[str]:
+        """What is wrong with the data behind a life that came to the end of all lines: there is a checkpoint of them, and a log without a
+        batch."""
+        found, made, left = self.leads(life.left), self.made_on(life.begun), life.left
         is_ended = found.point == len(self.lines) and left.log == head_with(self.said, found.number)
-        return None if is_ended else f"no checkpoint of all lines took the place of the log: {left!r:.300}"
+        is_last = life.begun.number is None or not made or made[-1].text == left.checkpoint
+        return None if is_ended and is_last else f"no checkpoint of all lines took the place of the log: {left!r:.300}"
 
     def fault_of_start(self, before: Data, start: Life) -> Optional[str]:
         """What is wrong with a start from data of the story's lines, that was asked the looks."""
@@ -182,11 +230,13 @@ class Story:
         return self.fault_of_end(found, start.left)
 
     def fault_of_end(self, found: Leads, left: Data) -> Optional[str]:
-        """What is wrong with the data behind such a start: there is a checkpoint of the lines and the looks, and a log without a batch."""
+        """What is wrong with the data behind such a start: there is a checkpoint of the lines and the looks, and a log without a batch.
+        Between them there was one of the lines, if they weren't in one before."""
         if left.checkpoint is None:
             return "the start left no checkpoint"
-        follows = (left.checkpoint.split(b"\n")[1][len(b"follows "):] if found.number is None else found.number).decode()
-        text = checkpoint_text(self.kept(found.lines, True)._replace(follows=follows))
+        looks, text = self.made(found, self.probe, lambda place, number: self.point(found.lines, number, place))[-1]
+        if found.number is None:
+            text = self.point(found.lines, follows_in(left.checkpoint), looks)
         wanted = Data(head_with(self.said, spelled(sum_of(text))), text)
         return None if left == wanted else f"the start left {left!r}, and not {wanted!r}"
 
@@ -195,20 +245,33 @@ def lines_of(read: Read) -> list[bytes]:
     return [line for batch in read.batches for line in batch.lines]
 
 
+def follows_in(checkpoint: bytes) -> bytes:
+    """The number of the log that a checkpoint follows."""
+    return checkpoint.split(b"\n")[1][len(b"follows "):]
+
+
 def head_of(story: Story, content: bytes) -> bytes:
     return content[:cut_head(story.said, content)[1]]
 
 
-def random_story(seed: str, lines: int, most: int) -> Story:
-    """A seeded story of so many lines, and of so many bytes at most."""
+def random_story(seed: str, lines: int, most: int, words: Sequence[str] = (), room: int = MOST_LOG) -> Story:
+    """A seeded story of so many lines, and of so many bytes at most, with these words before its own."""
     chance = Random(seed)
     while True:
         given = answer_input.make_input(chance, None, [lines])
         if len(given.data) <= most and b'"send"' in given.data:
-            return Story(given.words[1:], given.data.split(b"\n")[:-1])
+            return Story([*words, *given.words[1:]], given.data.split(b"\n")[:-1], room)
 
 
-def sums_story(lines: int) -> Story:
+def long_story() -> Story:
+    """Lines of 60,000 bytes, of which the first 280 are too many for a log of the program, and 10 more: some are puts, and the others are
+    refused."""
+    put = b'{"op":"call","from":"red/c","id":%d,"grain":"sheet/red:s","method":"put","args":{"name":"k%d","value":"'
+    begun = [(put % (number, number % 2), b'"}}') if number % 31 == 5 else (b"%d " % number, b"") for number in range(290)]
+    return Story(["red:2:4", "blue:2:4"], [start.ljust(60_000 - len(end), b"x") + end for start, end in begun])
+
+
+def sums_story(lines: int, words: Sequence[str] = (), room: int = MOST_LOG) -> Story:
     """Many short lines: sums on some counters of two tenants, some of which are saved."""
     asked = []
     for number in range(lines):
@@ -216,4 +279,4 @@ def sums_story(lines: int) -> Story:
         method, args = ("save", b"") if number % 50 == 49 else ("add", b',"args":{"by":%d}' % (number % 9))
         asked.append(b'{"op":"call","from":"%b/c","id":%d,"grain":"counter/%b:c%d","method":"%b"%b}'
                      % (tenant.encode(), number, tenant.encode(), number % 7, method.encode(), args))
-    return Story(["red:100:4", "blue:100:4"], asked)
+    return Story([*words, "red:100:4", "blue:100:4"], asked, room)

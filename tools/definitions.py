@@ -26,6 +26,7 @@ NAME = r"[^\s(){}\[\],;.:→×λ≡¬\"]+"
 TOKEN = re.compile(rf"{NAME}(?:\.{NAME})*")
 USE = re.compile(r"^\s*(?:ghost |pub )?use Rattle\.(\S+?)(?:\.\{(.*)\}|(?: as (\S+))?);?\s*$")
 HEAD = re.compile(r"(?:abbrev |unfoldable )?(?:pub )?(?:record |data )?(\S+) (?:.*:|\()")
+IN_MODULE = re.compile(r" +(?:(?:abbrev|unfoldable) (?:pub )?|(?:pub )?record )(\S+) (?:.*:|\()")
 MEMBER = re.compile(r"  (?:pub )?(\S+) :")
 OF_CODE = re.compile(r"(\w+)\.specs\.declared\.(?:.*\.)?(\w+?)(?:\.TheVariants)?")
 CLAUSE = re.compile(r"\b(?:requires|ensures)\*?(?: once)?(?: \w+)? \{")
@@ -109,8 +110,8 @@ class Spec:
         for line in text.splitlines():
             if not line.strip() or USE.match(line):
                 continue
-            head, is_mutual = HEAD.match(line), line.startswith("abbrev mutual")
-            if is_mutual or head and not line.startswith(" "):
+            head, is_mutual = HEAD.match(line) or IN_MODULE.match(line), line.startswith("abbrev mutual")
+            if is_mutual or head and (not line.startswith(" ") or IN_MODULE.match(line)):
                 own, has_members = [] if is_mutual else [head[1]], is_mutual or "data " in line
             member = MEMBER.match(line) if has_members else None
             own += [member[1]] if member else []

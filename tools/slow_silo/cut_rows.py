@@ -22,19 +22,17 @@ from . import data, switched
 from .checkpoint import checkpoint_of, checkpoint_text, sum_of
 from .data import DiskFolder, Folder, MemoryFolder
 from .lines import ReaderFailed
-from .log import numbered_head, spelled
+from .log import DIGITS, numbered_head, spelled
 from .program import FAULTS_OF_DATA, Run, run_program
 from .silo import Silo
-from .switched import AT_THE_END, MOST_LOG, full
-from .folder_texts import left_by, lines_text, setup_and_most
-from .switch_rows import STORY, STORY_WORDS, answers_of
+from .switched import MOST_LOG, full, of_program
+from .folder_texts import left_by, lines_text, replaced_behind, setup_and_most
+from .switch_rows import PROGRAM_WORDS, STORY, STORY_WORDS, answers_of
 
-# bytes of batches above which a log is replaced, and lines of a batch: so there are switches at some of the batches
+# bytes of lines above which a log is replaced, and lines of a piece: so there are switches between some, and in the midst of some
 MOST, LINES = 300, 4
 MOST_CALLS = 10_000
 KILLED, BYTES_GONE, ZEROS, HALF_GONE = range(4)
-# those of the program, which has checkpoints at the end alone
-END_WORDS = [word for word in STORY_WORDS if word != "--checkpoints"]
 
 
 class Cut(Exception):
@@ -224,7 +222,8 @@ def reading_of(files: dict, words: Sequence[str]) -> Optional[bytes]:
     """Where a folder leads; none if it is refused."""
     setup, most = setup_and_most(words)
     try:
-        silo, _log = switched.start(MemoryFolder(dict(files), "d"), setup, most, full(MOST) if "--checkpoints" in words else AT_THE_END)
+        form = full if "--checkpoints" in words else of_program
+        silo, _log = switched.start(MemoryFolder(dict(files), "d"), setup, most, form(MOST))
     except tuple(FAULTS_OF_DATA):
         return None
     return state_text(silo)
@@ -241,9 +240,17 @@ class Story:
     def text(self, first: int, last: int) -> bytes:
         return b"".join(self.texts[first:last])
 
-    def kept(self, had: int, told: bytes, files: dict) -> Optional[int]:
+    def ends(self, had: int, is_due: bool) -> list[int]:
+        """Behind how many lines a batch ends, of a life that had so many, and perhaps made a checkpoint of them: a piece ends there, or a
+        log that is full."""
+        lines, sends = [line.encode() for line in self.lines[had:]], setup_and_most(self.words)[1]
+        # these states follow no number, and tell of no sends
+        switched_ = replaced_behind(lines, MOST, is_due, lambda place: len(self.states[had + place]) + DIGITS + len(f"{sends}") - 1)
+        return sorted({*range(had, len(self.lines), LINES), len(self.lines), *(had + place for place in switched_)})
+
+    def kept(self, had: int, is_due: bool, told: bytes, files: dict) -> Optional[int]:
         """To how many lines a folder leads whose silo, behind the lines that it had, told so much. None if that isn't as it should be."""
-        ends = [*range(had, len(self.lines), LINES), len(self.lines)]
+        ends = self.ends(had, is_due)
         state = reading_of(files, self.words)
         fits = [end for before, end in zip([had, *ends], ends)
                 if state == self.states[end] and self.text(had, end).startswith(told) and told.startswith(self.text(had, before))]
@@ -262,7 +269,7 @@ def cut_lives(live: Lived, story: Story, files: dict, had: int) -> Iterator[tupl
         if life.run is not None:
             yield is_whole(story, life, left, had), left
             return
-        count = story.kept(had, life.told, left)
+        count = story.kept(had, has_lines(files), life.told, left)
         yield count is not None and goes_on(story, left, count), left
     yield False, {}
 
@@ -287,7 +294,7 @@ def interrupted(lines: list, most: int = MOST, words: Sequence[str] = STORY_WORD
     return run_program(words, batches(), files, most_log=most).files
 
 
-def ended(lines: list, words: Sequence[str] = END_WORDS) -> dict:
+def ended(lines: list, words: Sequence[str] = PROGRAM_WORDS) -> dict:
     return run_program(words, map(lines_text, batches_of(lines))).files
 
 
@@ -297,10 +304,16 @@ def is_stale(files: dict) -> bool:
     return head is not None and "d/checkpoint" in files and head.number != spelled(sum_of(files["d/checkpoint"]))
 
 
+def has_lines(files: dict) -> bool:
+    """The log has lines that no checkpoint has."""
+    return not is_stale(files) and b"\n+" in files.get("d/log", b"")
+
+
 # on the disk a life takes longer
-WHOLE, SHORT, WHOLE_AT_END, SHORT_AT_END = (Story(lines, words) for words in (STORY_WORDS, END_WORDS) for lines in (STORY, STORY[:8]))
+WHOLE, SHORT, WHOLE_OF_PROGRAM, SHORT_OF_PROGRAM = (
+    Story(lines, words) for words in (STORY_WORDS, PROGRAM_WORDS) for lines in (STORY, STORY[:8]))
 # folders of the program with a checkpoint of four lines, and how many lines they have
-BEGUN = [(ended(STORY[:4]), 4), (interrupted(STORY[4:8], words=END_WORDS, files=ended(STORY[:4])), 8)]
+BEGUN = [(ended(STORY[:4]), 4), (interrupted(STORY[4:8], MOST_LOG, PROGRAM_WORDS, ended(STORY[:4])), 8)]
 
 
 def holds(live: Lived, story: Story, files: Optional[dict] = None, had: int = 0) -> bool:
@@ -310,31 +323,31 @@ def holds(live: Lived, story: Story, files: Optional[dict] = None, had: int = 0)
 
 
 def each_life_in_memory_that_ends_at_a_call() -> bool:
-    return holds(lived_in_memory, WHOLE) and holds(lived_in_memory, WHOLE_AT_END)
+    return holds(lived_in_memory, WHOLE) and holds(lived_in_memory, WHOLE_OF_PROGRAM)
 
 
 def each_life_that_goes_on_from_a_checkpoint() -> bool:
-    return all(holds(lived_in_memory, WHOLE_AT_END, *begun) for begun in BEGUN)
+    return all(holds(lived_in_memory, WHOLE_OF_PROGRAM, *begun) for begun in BEGUN)
 
 
 def each_life_on_the_disk_that_ends_at_a_call() -> bool:
-    return holds(partial(lived_on_disk, KILLED), SHORT) and holds(partial(lived_on_disk, KILLED), SHORT_AT_END)
+    return holds(partial(lived_on_disk, KILLED), SHORT) and holds(partial(lived_on_disk, KILLED), SHORT_OF_PROGRAM)
 
 
 def each_life_that_ends_by_a_power_cut() -> bool:
     """Also from a folder in whose place another checkpoint comes back."""
     losing = [partial(lived_on_disk, loses) for loses in (BYTES_GONE, ZEROS, HALF_GONE)]
-    return all(holds(live, SHORT) and holds(live, SHORT_AT_END) and holds(live, SHORT_AT_END, *BEGUN[0]) for live in losing)
+    return all(holds(live, SHORT) and holds(live, SHORT_OF_PROGRAM) and holds(live, SHORT_OF_PROGRAM, *BEGUN[0]) for live in losing)
 
 
 def each_start_that_ends_at_a_call() -> bool:
     """It is asked nothing: it answers the batches of a log again, behind a checkpoint or without one, or passes over a stale log."""
     begun = [(interrupted(STORY[:count], most), Story(STORY[:count]), count) for count, most in ((8, MOST_LOG), (8, MOST), (32, MOST))]
-    begun += [(interrupted(STORY[:8], words=END_WORDS), SHORT_AT_END, 8), (BEGUN[1][0], SHORT_AT_END, 8)]
+    begun += [(interrupted(STORY[:8], MOST_LOG, PROGRAM_WORDS), SHORT_OF_PROGRAM, 8), (BEGUN[1][0], SHORT_OF_PROGRAM, 8)]
     first = [(left, story, count) for files, story, count in begun for _is_well, left in cut_lives(lived_in_memory, story, files, count)]
     again = [one for files, story, count in first if is_stale(files) for one in cut_lives(lived_in_memory, story, files, count)]
     return ["d/checkpoint" in files for files, *_more in begun] == [False, True, True, False, True] and len(again) > 20 and all(
-        is_well for is_well, _left in again) and all(story.kept(count, b"", files) == count for files, story, count in first)
+        is_well for is_well, _left in again) and all(story.kept(count, True, b"", files) == count for files, story, count in first)
 
 
 def each_start_under_other_words_that_ends_at_a_call() -> bool:
@@ -359,9 +372,9 @@ def damaged(text: bytes) -> Iterator[tuple[int, bytes]]:
 
 def each_changed_byte_of_a_checkpoint_has_it_refused() -> bool:
     """At its line or a later one, if the line is told; no other file changes, and nothing is told."""
-    files, at_end = interrupted(STORY[:24]), BEGUN[1][0]
+    files, of_the_program = interrupted(STORY[:24]), BEGUN[1][0]
     return all(is_refused(STORY_WORDS, files, line, changed) for line, changed in damaged(files["d/checkpoint"])) and all(
-        is_refused(END_WORDS, at_end, line, changed) for line, changed in damaged(at_end["d/checkpoint"]))
+        is_refused(PROGRAM_WORDS, of_the_program, line, changed) for line, changed in damaged(of_the_program["d/checkpoint"]))
 
 
 def is_refused(words: Sequence[str], files: dict, line: int, text: bytes) -> bool:

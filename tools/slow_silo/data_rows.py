@@ -1,7 +1,7 @@
 """Worked rows of `answer --data`, from a log without a checkpoint: folders before and after, to be followed by hand.
 
 Those of `DATA` are inputs of the program. Each of `DATA_CALLS` is a function that says whether it holds: of logs while a silo runs, and of
-folders on the disk. `end_rows` goes on from checkpoints.
+folders on the disk. `folder_rows` goes on from checkpoints.
 """
 
 from __future__ import annotations
@@ -9,19 +9,19 @@ from __future__ import annotations
 import pathlib
 import stat
 import tempfile
-from typing import Callable, Iterator, NamedTuple, Sequence, Union
+from typing import Callable, Iterator, NamedTuple, Optional, Sequence, Union
 
 from .data import DiskFolder, MemoryFolder
-from .folder_texts import ANSWER, WORDS, after, ended, lines_text, log_of, point
+from .folder_texts import ANSWER, WORDS, after, ended, lines_text, log_of, number_in, point, started, words_said
 from .kinds import NEWEST
-from .lines import ReaderFailed
+from .lines import MAX_LINE, ReaderFailed
 from .log import Words, cut_head
 from .program import Run, run_program
 from .row import Row
 from .short_lines import A, LINE_TOO_LONG, NOT_A_REQUEST, SHEET, SWEEP, call, ok, seen, status, text, tick, told
 
 ADD, MORE, GET = call(1, A, "add", {"by": 3}), call(2, A, "add", {"by": 4}), call(3, A, "get")
-LONG = "x" * 65_537
+LONG = "x" * (MAX_LINE + 1)
 
 
 class GoesOn(NamedTuple):
@@ -31,22 +31,30 @@ class GoesOn(NamedTuple):
     before: str
     lines: list
     out: list
-    # what the log then is, until the input ends
-    log: str
     words: Sequence[str] = ANSWER
+    # what of the log is gone on from, if not all of it
+    kept: Optional[str] = None
+
+    def log(self) -> str:
+        return self.before if self.kept is None else self.kept
 
     def row(self) -> Row:
-        """At the end of the input a checkpoint has the log's lines, if there are any."""
-        return Row(self.name, list(self.words), self.lines, self.out, files={"d/log": self.before}, files_after=ended(self.log, self.words))
+        """A checkpoint has the lines that were answered again, if there are any, and at the end of the input the next one all."""
+        left = ended(self.log(), self.lines, self.words)
+        return Row(self.name, list(self.words), self.lines, self.out, files={"d/log": self.before}, files_after=left)
 
     def holds_still(self) -> bool:
-        """The log has the lines, and there is no checkpoint, if the input fails."""
+        """If the input fails, the log has what was asked, and no checkpoint has it."""
         def pieces() -> Iterator[bytes]:
             yield lines_text(self.lines)
             raise ReaderFailed
 
+        left = started(self.log(), self.words)
+        if self.lines:
+            batch = [line[:MAX_LINE + 1] for line in self.lines], self.out
+            left["d/log"] = log_of(batch, words=words_said(self.words), number=number_in(left))
         run = run_program(list(self.words), pieces(), {"d/log": self.before.encode()})
-        return run == Run(lines_text(self.out), b"silo: reading failed\n", 1, {"d/log": self.log.encode(), "d/lock": b""})
+        return run == Run(lines_text(self.out), b"silo: reading failed\n", 1, {path: content.encode() for path, content in left.items()})
 
 
 goes_on = GoesOn
@@ -67,29 +75,24 @@ SET_UP = Words(NEWEST, 0, 10, (("counter", 5), ("sheet", 7)), (("red", 3, 4), ("
 SET_UP_WORDS = ["answer", "--sends", "0", "--age", "10", "--ages", "sheet=7,counter=5", "--data", "d", "red:3:4", "blue:1:1"]
 
 LOGS: list[Union[GoesOn, Row]] = [
-    goes_on("what was answered is in the log, behind its head", log_of(), ADD, ok(1, 3), log_of(FIRST)),
-    goes_on("a start goes on from what the log has", TWO, GET, ok(3, 7), log_of(FIRST, SECOND, (GET, ok(3, 7)))),
-    goes_on("nothing is told of the log, and without a line nothing is added to it", TWO, [], [], TWO),
+    goes_on("what was answered is in the log, behind its head", log_of(), ADD, ok(1, 3)),
+    goes_on("without a line nothing is added to it", log_of(), [], []),
+    goes_on("a start goes on from what the log has", TWO, GET, ok(3, 7)),
+    goes_on("nothing is told of the log", TWO, [], []),
     goes_on("rows, the clock and what rests come back",
             log_of((ADD + REST + tick(5), ok(1, 3) + ok(4, "1") + ok(5, None))), status(6) + GET,
-            seen(6, 0, 5, 3) + ok(3, 3),
-            log_of((ADD + REST + tick(5), ok(1, 3) + ok(4, "1") + ok(5, None)), (status(6) + GET, seen(6, 0, 5, 3) + ok(3, 3)))),
+            seen(6, 0, 5, 3) + ok(3, 3)),
     goes_on("every line is in the log: an empty one, one that is refused, and of one that is too long what shows that",
-            log_of(), ["", "hello", LONG + "yyy", *SWEEP], NOT_A_REQUEST + LINE_TOO_LONG,
-            log_of((["", "hello", LONG, *SWEEP], NOT_A_REQUEST + LINE_TOO_LONG))),
-    goes_on("what grains are told is told for their line", log_of(words=SET_UP), [], [], log_of(words=SET_UP), SET_UP_WORDS),
+            log_of(), ["", "hello", LONG + "yyy", *SWEEP], NOT_A_REQUEST + LINE_TOO_LONG),
+    goes_on("what grains are told is told for their line", log_of(words=SET_UP), [], [], SET_UP_WORDS),
     goes_on("sends that are left go on behind the next line", log_of((RELAYS[0], ok(1, True) + ok(2, 1)), words=SET_UP),
-            status(3), seen(3, 1, 0, 2), log_of((RELAYS[0], ok(1, True) + ok(2, 1)), (status(3), seen(3, 1, 0, 2)), words=SET_UP),
-            SET_UP_WORDS),
-    goes_on("a line without a mark was never acknowledged, and is cut off", TWO + text(["+" + MORE[0]]), GET, ok(3, 7),
-            log_of(FIRST, SECOND, (GET, ok(3, 7)))),
-    goes_on("so is a torn line", TWO + "+{", GET, ok(3, 7), log_of(FIRST, SECOND, (GET, ok(3, 7)))),
-    goes_on("so is a torn mark", TWO[:-1], GET, ok(3, 3), log_of(FIRST, (GET, ok(3, 3)))),
-    goes_on("so are zeros", TWO + "\0" * 40, GET, ok(3, 7), log_of(FIRST, SECOND, (GET, ok(3, 7)))),
-    goes_on("so are the bytes of an older log", TWO + log_of(FIRST, SECOND, FIRST, number=7)[len(log_of()):], GET, ok(3, 7),
-            log_of(FIRST, SECOND, (GET, ok(3, 7)))),
-    goes_on("so is a last batch whose bytes were changed", TWO.replace('"by":4', '"by":5'), GET, ok(3, 3),
-            log_of(FIRST, (GET, ok(3, 3)))),
+            status(3), seen(3, 1, 0, 2), SET_UP_WORDS),
+    goes_on("a line without a mark was never acknowledged, and is cut off", TWO + text(["+" + MORE[0]]), GET, ok(3, 7), kept=TWO),
+    goes_on("so is a torn line", TWO + "+{", GET, ok(3, 7), kept=TWO),
+    goes_on("so is a torn mark", TWO[:-1], GET, ok(3, 3), kept=log_of(FIRST)),
+    goes_on("so are zeros", TWO + "\0" * 40, GET, ok(3, 7), kept=TWO),
+    goes_on("so are the bytes of an older log", TWO + log_of(FIRST, SECOND, FIRST, number=7)[len(log_of()):], GET, ok(3, 7), kept=TWO),
+    goes_on("so is a last batch whose bytes were changed", TWO.replace('"by":4', '"by":5'), GET, ok(3, 3), kept=log_of(FIRST)),
     refused("a batch that was changed, with a good one behind it, is refused at its mark", TWO.replace('"by":3', '"by":5'), 4,
             "silo: log line 8 is refused"),
     refused("a line that no log has, with two marks behind it, is refused", TWO.replace("+" + ADD[0], "-" + ADD[0]), 4,
@@ -104,7 +107,7 @@ LOGS: list[Union[GoesOn, Row]] = [
     refused("a last mark that says another length", TWO.replace(LAST_MARK, LAST_MARK.replace("5d", "5e", 1)), 4,
             "silo: log line 10 is refused"),
     goes_on("one that says another sum is cut off with its lines", TWO.replace(LAST_MARK, LAST_MARK[:-2] + "x\n"), GET, ok(3, 3),
-            log_of(FIRST, (GET, ok(3, 3)))),
+            kept=log_of(FIRST)),
     refused("a log that is answered otherwise than it was told", log_of(FIRST, (MORE, ok(2, 8)), (GET, ok(3, 7))), 4,
             "silo: log line 10 is answered otherwise"),
     refused("that comes before a fault behind it", log_of((ADD, ok(1, 4)), SECOND).replace('"by":4', '"by":5'), 4,
@@ -118,8 +121,7 @@ LOGS: list[Union[GoesOn, Row]] = [
     refused("a log of no byte", "", 4, "silo: log line 1 is refused"),
     refused("a head that is torn", log_of()[:-1], 2, "silo: the data have other words"),
     refused("a head whose number was changed", TWO.replace("of 0", "of 1"), 2, "silo: the data have other words"),
-    goes_on("nothing is brought to the disk", TWO, GET, ok(3, 7), log_of(FIRST, SECOND, (GET, ok(3, 7))),
-            ["answer", "--data=d", "--no-sync", "red:2:4"]),
+    goes_on("nothing is brought to the disk", TWO, GET, ok(3, 7), ["answer", "--data=d", "--no-sync", "red:2:4"]),
     Row("a tenant argument that is refused comes before the folder", ["answer", "--data", "d", "red"], GET, [], 2,
         "silo: tenant argument 1 is refused"),
     Row("no journal beside the data", ["answer", "--data", "d", "--journal", "j", "red:2:4"], GET, [], 2, "error: not both"),
@@ -130,8 +132,7 @@ LOGS: list[Union[GoesOn, Row]] = [
 DATA = [it.row() if isinstance(it, GoesOn) else it for it in LOGS]
 
 
-def each_log_stays_if_the_input_fails() -> bool:
-    """All lines are in the log, and no checkpoint is made."""
+def each_log_has_what_was_asked_if_the_input_fails() -> bool:
     return all(it.holds_still() for it in LOGS if isinstance(it, GoesOn))
 
 
@@ -232,12 +233,13 @@ def what_one_piece_brings_is_a_batch() -> bool:
     batches = [FIRST, (MORE + GET, ok(2, 7) + ok(3, 7)), (put * 18, ok(1, None) * 18), (put * 2, ok(1, None) * 2),
                (["last"], NOT_A_REQUEST)]
     whole = run_program(ANSWER, pieces, files)
-    wanted = {path: content.encode() for path, content in ended(log_of(*batches)).items()}
+    asked = [line for batch, _out in batches for line in batch]
+    wanted = {path: content.encode() for path, content in ended(log_of(), asked).items()}
     return run.files["d/log"].decode() == log_of(*batches) and (whole.out, whole.files) == (run.out, wanted)
 
 
 DATA_CALLS: tuple[Callable[[], bool], ...] = (
-    each_log_stays_if_the_input_fails, a_refused_log_gets_no_checkpoint,
+    each_log_has_what_was_asked_if_the_input_fails, a_refused_log_gets_no_checkpoint,
     a_new_folder_has_a_log_of_its_lines, two_new_logs_have_two_numbers, what_is_on_the_disk_is_its_owners,
     a_folder_that_another_has_is_in_use, links_are_no_files_of_the_folder, a_folder_that_cant_be_made_cant_be_written,
     what_one_piece_brings_is_a_batch)

@@ -2,10 +2,11 @@
 
 from __future__ import annotations
 
-from typing import Sequence
+from typing import Callable, Iterator, Sequence
 
 from .checkpoint import checkpoint_of, checkpoint_text, sum_of
 from .kinds import NEWEST
+from .lines import MAX_LINE
 from .log import Place, Words, Writer, head_with, read_log, spelled, sum_after
 from .logged import words_of
 from .once import answer_line
@@ -16,6 +17,8 @@ from .silo import Silo
 NUMBER = 0x0123456789ABCDEF
 WORDS = Words(NEWEST, 1000, 900000, (), (("red", 2, 4),))
 ANSWER = ["answer", "--data", "d", "red:2:4"]
+# those of the form that is to come
+KEPT = ["answer", "--data", "d", "--checkpoints", "red:2:4"]
 
 
 def lines_text(lines: list) -> bytes:
@@ -92,7 +95,30 @@ def after(point_of: str, words: Sequence[str] = ANSWER) -> dict:
     return {"d/checkpoint": point_of, "d/log": log_of(words=words_said(words), number=of(point_of)), "d/lock": ""}
 
 
-def ended(log: str, words: Sequence[str] = ANSWER) -> dict:
-    """A folder behind the end of the input, of a silo that had this log then, and no checkpoint."""
+def started(log: str, words: Sequence[str] = ANSWER) -> dict:
+    """A folder behind a start from this log, and no checkpoint. There is one of its lines, if it has any."""
     lines = lines_in(log, words)
     return after(point(lines, words=words), words) if lines else {"d/log": log, "d/lock": ""}
+
+
+def number_in(folder: dict) -> int:
+    """The number of the log in a folder behind a start."""
+    return of(folder["d/checkpoint"]) if "d/checkpoint" in folder else NUMBER
+
+
+def ended(log: str, lines: list, words: Sequence[str] = ANSWER) -> dict:
+    """A folder behind the end of an input of these lines, and a start from this log."""
+    begun = started(log, words)
+    return after(point(lines_in(log, words) + lines, number_in(begun), words), words) if lines else begun
+
+
+def replaced_behind(lines: Sequence[bytes], most: int, is_due: bool, length_at: Callable[[int], int]) -> Iterator[int]:
+    """Behind how many of these lines a checkpoint takes the log's place, of a run that is asked them: where, and how long each is. It is
+    told whether one is due at the start."""
+    grown, room = 0, most
+    for place in range(len(lines) + 1):
+        if is_due or grown > room or grown > 0 and place == len(lines):
+            grown, room, is_due = 0, max(most, length_at(place)), False
+            yield place
+        if place < len(lines):
+            grown += len(lines[place][:MAX_LINE + 1]) + 1

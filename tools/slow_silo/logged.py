@@ -1,4 +1,12 @@
-"""Lines that are answered once they are in a log, and logs whose lines are answered again, or whose place a checkpoint takes."""
+"""Lines that are answered once they are in a log, and logs whose lines are answered again, or whose place a checkpoint takes.
+
+A checkpoint takes the place of a log at three moments: right after a start that answered lines of it again; behind the line with which
+it got more bytes of lines than there is room for, once the batch of that line is told; and at the end of the input, if it has lines. The
+lines that it got in this run count with the bytes that the log has of each, and an LF. There is room for as many bytes as the form says, or
+as the last checkpoint has that this run made, if these are more.
+
+If no checkpoint can be made, the log goes on, and the next one is tried at the end of the input.
+"""
 
 from __future__ import annotations
 
@@ -40,9 +48,8 @@ class Answered(NamedTuple):
 class Found(NamedTuple):
     """What a folder has."""
 
-    # the silo to which the checkpoint leads, and how many bytes that has
+    # the silo to which the checkpoint leads
     silo: Silo
-    checkpoint: int
     # of the log: its number as it is spelled
     words: Words
     number: bytes
@@ -53,24 +60,22 @@ class Found(NamedTuple):
 class Log:
     """The log of a folder, where it goes on, and the silo to which its lines lead."""
 
-    def __init__(self, folder: Folder, found: Found, place: Place, has_lines: bool, most: Optional[int]):
-        self.folder, self.place, self.has_lines = folder, place, has_lines
-        self.silo, self.words, self.number, self.checkpoint = found.silo, found.words, found.number, found.checkpoint
-        # bytes of batches that were written, and how many there may be while the silo runs
-        self.batches, self.most = 0, most
+    def __init__(self, folder: Folder, found: Found, place: Place, has_lines: bool, most: int):
+        self.folder, self.place, self.has_lines, self.most = folder, place, has_lines, most
+        self.silo, self.words, self.number = found.silo, found.words, found.number
+        # bytes of the lines that it got in this run, each with an LF, and for how many there is room; none if for any number
+        self.grown = 0
+        self.room: Optional[int] = most
 
     def keep(self, lines: list[bytes], text: bytes) -> None:
         """Has a batch in the log, and on the disk."""
         batch = self.place.batch(lines, text)
         self.folder.append(batch)
         self.folder.sync()
-        self.batches += len(batch)
         self.has_lines = True
 
-    def told(self) -> None:
-        """What is done once the texts of a batch are told."""
-        if self.most is not None and self.batches > max(self.checkpoint, self.most):
-            self.switch()
+    def is_full(self) -> bool:
+        return self.room is not None and self.grown > self.room
 
     def end(self) -> None:
         """What is done at the end of the input."""
@@ -78,19 +83,23 @@ class Log:
             self.switch()
 
     def switch(self) -> None:
-        """Has all that the log leads to in a checkpoint, and begins a log that goes on from there. Nothing is done if the log's number
-        can't stand in a checkpoint, or would be the new one's, too."""
-        follows = self.number.decode("latin-1")
-        if not IS_VISIBLE(follows):
-            return
-        text = checkpoint_text(checkpoint_of(self.silo, follows, self.words.sends))
-        number = spelled(sum_of(text))
-        if number == self.number:
+        """Has all that the log leads to in a checkpoint, and begins a log that goes on from there. If the log's number can't stand in a
+        checkpoint, or would be the new one's, too, the log goes on, whatever it gets."""
+        text = self.next_checkpoint()
+        if text is None:
+            self.room = None
             return
         self.folder.place(text)
-        self.words = words_of(self.silo.setup, self.words.sends)
-        self.number, self.place = number, begin_log(self.folder, self.words, number)
-        self.checkpoint, self.batches, self.has_lines = len(text), 0, False
+        self.words, self.number = words_of(self.silo.setup, self.words.sends), spelled(sum_of(text))
+        self.place = begin_log(self.folder, self.words, self.number)
+        self.grown, self.room, self.has_lines = 0, max(self.most, len(text)), False
+
+    def next_checkpoint(self) -> Optional[bytes]:
+        follows = self.number.decode("latin-1")
+        if not IS_VISIBLE(follows):
+            return None
+        text = checkpoint_text(checkpoint_of(self.silo, follows, self.words.sends))
+        return None if spelled(sum_of(text)) == self.number else text
 
 
 def words_of(setup: Setup, sends: int) -> Words:
@@ -157,11 +166,10 @@ class Batch:
         if text:
             self.tell(text)
         self.lines, self.texts, self.asked, self.told = [], [], 0, 0
-        self.log.told()
 
 
 def answer_logged(silo: Silo, log: Log, pieces: Iterable[bytes], most: int, tell: Callable[[bytes], None]) -> None:
-    """Answers the lines of an input that comes in pieces: the whole lines that one piece brings are a batch."""
+    """Answers the lines of an input that comes in pieces: the whole lines that one piece brings are a batch, or more if the log is full."""
     batch, count, rest = Batch(log, tell), 0, b""
 
     def take(line: bytes) -> None:
@@ -173,6 +181,11 @@ def answer_logged(silo: Silo, log: Log, pieces: Iterable[bytes], most: int, tell
         # of a line that is too long no more is kept than shows that
         kept = line[:MAX_LINE + 1]
         batch.add(kept, text_of(silo, kept, most))
+        log.grown += len(kept) + 1
+        # the last line that there may be is followed by none
+        if log.is_full() and count < MAX_ANSWERED_LINES:
+            batch.close()
+            log.switch()
 
     for piece in pieces:
         *whole, rest = (rest + piece).split(b"\n")

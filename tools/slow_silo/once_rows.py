@@ -8,7 +8,7 @@ from typing import Callable, Sequence
 from .checkpoint import checkpoint_of, checkpoint_text, read_checkpoint
 from .cut_rows import Story, damaged, holds, is_refused, lived_in_memory
 from .data_rows import ADD, FIRST, GET, MORE, GoesOn
-from .end_rows import JOINS, OTHER_WORDS, POINT_REFUSED, SENT
+from .folder_rows import JOINS, OTHER_WORDS, POINT_REFUSED, SENT
 from .folder_texts import NUMBER, after, changed, left_by, lines_text, log_of, of, point, summed, words_said
 from .log import spelled
 from .program import run_program
@@ -50,13 +50,13 @@ def few(most: int, *more: str) -> list:
     return ["answer", "--data", "d", "--replies", str(most), *(more or ["red:2:4"])]
 
 
-def at_end(words: Sequence[str]) -> list:
-    """These words, with a checkpoint at the end alone."""
+def of_program(words: Sequence[str]) -> list:
+    """These words, in the form that the program has."""
     return [word for word in words if word != "--checkpoints"]
 
 
 def of_both_forms(rows: list[Row]) -> list[Row]:
-    return [*rows, *(it._replace(words=at_end(it.words)) for it in rows)]
+    return [*rows, *(it._replace(words=of_program(it.words)) for it in rows)]
 
 
 def asked(name: str, lines: list, out: list, words: Sequence[str] = tuple(ONE)) -> Row:
@@ -234,12 +234,10 @@ AGAIN = once(ADD + MORE + add(3, 1) + call(4, A, "get") + add(8, 1, OTHER)) + la
 AGAIN_TOLD = was(1) + ok(2, 7) + was(3) + no(4, 60, "method is unknown") + was(8, OTHER) + ok(5, 4) + ok(5, 9, OTHER)
 LOGGED = log_of((ONE_LINES, ONE_TOLD), words=words_said(ONE))
 HELD = after(ONE_POINT, ONE)
-# in the form that has a checkpoint at the end alone
 LOGS = [
-    GoesOn("lines with numbers are answered again, and are in a checkpoint with those that are asked", LOGGED, AGAIN, AGAIN_TOLD,
-           log_of((ONE_LINES, ONE_TOLD), (AGAIN, AGAIN_TOLD), words=words_said(ONE)), at_end(ONE)),
-    GoesOn("lines whose receipts are told again are in a log as others", ONE_LOG, once(ADD + ADD), ok(1, 3) * 2,
-           log_of((once(ADD + ADD), ok(1, 3) * 2), words=words_said(ONE)), at_end(ONE)),
+    GoesOn("lines with numbers are answered again, and those that are asked go on from their checkpoint", LOGGED, AGAIN, AGAIN_TOLD,
+           of_program(ONE)),
+    GoesOn("lines whose receipts are told again are in a log as others", ONE_LOG, once(ADD + ADD), ok(1, 3) * 2, of_program(ONE)),
 ]
 
 
@@ -274,10 +272,10 @@ STARTS = [
         files={"d/checkpoint": ONE_POINT}),
     refused("a tenant with a caller can't be left out", after(point(once(call(9, "what", "get")), words=ONE), ONE), 2,
             "the data have the tenant red", few(10, "--checkpoints", "blue:1:1")),
-    *(refused(f"with a checkpoint at the end alone, a checkpoint of other words: {name}", before, 2, OTHER_WORDS, words)
+    *(refused(f"in the form of the program, a checkpoint of other words: {name}", before, 2, OTHER_WORDS, words)
       for name, before, words in (
-          ("other replies", HELD, few(9)), ("none", HELD, at_end(WITHOUT)), ("bytes", HELD, few(10, "--bytes", "9", "red:2:4")),
-          ("an operator", HELD, few(10, "--operator", "red:2:4")), ("one of before", after(point(ADD)), at_end(ONE)))),
+          ("other replies", HELD, few(9)), ("none", HELD, of_program(WITHOUT)), ("bytes", HELD, few(10, "--bytes", "9", "red:2:4")),
+          ("an operator", HELD, few(10, "--operator", "red:2:4")), ("one of before", after(point(ADD)), of_program(ONE)))),
 ]
 
 # ---- checkpoints that are refused
@@ -327,7 +325,7 @@ FORGED = [
 ]
 
 ONCE: list[Row] = [*NUMBERS, *SEEN, *SENDS, *BOUNDS, *FORMS, *of_both_forms(BOTH), *(it.row() for it in LOGS), *STARTS, *FORGED,
-                   *(it._replace(words=at_end(it.words), errors="silo: " + POINT_REFUSED) for it in FORGED)]
+                   *(it._replace(words=of_program(it.words), errors="silo: " + POINT_REFUSED) for it in FORGED)]
 
 
 # ---- runs
@@ -363,15 +361,15 @@ STORY = (once(JOINS + SENT[2:]) + once(SENT[2:]) + once(ADD) + once(add(4, 1), s
 
 def each_life_with_receipts_that_ends_at_a_call() -> bool:
     """It leaves where some first lines lead, with their receipts and tenants, as it would without (cut_rows.py)."""
-    return all(holds(lived_in_memory, Story(STORY, words)) for words in (STORY_WORDS, at_end(STORY_WORDS)))
+    return all(holds(lived_in_memory, Story(STORY, words)) for words in (STORY_WORDS, of_program(STORY_WORDS)))
 
 
 def each_changed_byte_of_a_checkpoint_with_receipts_has_it_refused() -> bool:
     files = {"d/checkpoint": ONE_POINT.encode(), "d/log": log_of(words=words_said(ONE)).encode(), "d/lock": b""}
-    return all(is_refused(words, files, line_, text) for words in (ONE, at_end(ONE)) for line_, text in damaged(ONE_POINT.encode()))
+    return all(is_refused(words, files, line_, text) for words in (ONE, of_program(ONE)) for line_, text in damaged(ONE_POINT.encode()))
 
 
-def each_log_with_receipts_stays_if_the_input_fails() -> bool:
+def each_log_with_receipts_has_what_was_asked_if_the_input_fails() -> bool:
     return all(it.holds_still() for it in LOGS)
 
 
@@ -382,5 +380,5 @@ def what_was_kept_of_callers_is_read() -> bool:
 
 ONCE_CALLS: tuple[Callable[[], bool], ...] = (
     a_caller_has_a_thousand_receipts_at_most, a_caller_has_receipts_of_a_megabyte_at_most, each_life_with_receipts_that_ends_at_a_call,
-    each_changed_byte_of_a_checkpoint_with_receipts_has_it_refused, each_log_with_receipts_stays_if_the_input_fails,
+    each_changed_byte_of_a_checkpoint_with_receipts_has_it_refused, each_log_with_receipts_has_what_was_asked_if_the_input_fails,
     what_was_kept_of_callers_is_read)

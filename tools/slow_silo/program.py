@@ -219,16 +219,16 @@ FAULTS_OF_DATA = {
 }
 # without --checkpoints it isn't said why a checkpoint is refused
 REFUSED = (BAD_JOURNAL, "silo: the checkpoint is refused")
-FAULTS_AT_THE_END = {**FAULTS_OF_DATA, CheckpointRefused: REFUSED, switched.HasKind: REFUSED, switched.HasCount: REFUSED}
+FAULTS_OF_PROGRAM = {**FAULTS_OF_DATA, CheckpointRefused: REFUSED, switched.HasKind: REFUSED, switched.HasCount: REFUSED}
 
 
 def run_data(given: dict, words: list[str], data: Union[bytes, Iterable[bytes]], folder: Folder, written: list[bytes],
              most_log: int) -> None:
     """`answer` with a folder of data: it goes on from what was answered before, and answers the input."""
     setup, most = setup_of(given, words), int(given.get("--sends", DEFAULT_SENDS))
-    form, faults = (switched.full(most_log), FAULTS_OF_DATA) if "--checkpoints" in given else (switched.AT_THE_END, FAULTS_AT_THE_END)
+    form, faults = (switched.full, FAULTS_OF_DATA) if "--checkpoints" in given else (switched.of_program, FAULTS_OF_PROGRAM)
     try:
-        silo, kept = switched.start(folder, setup, most, form)
+        silo, kept = switched.start(folder, setup, most, form(most_log))
         logged.answer_logged(silo, kept, pieces_of(data), most, written.append)
     except tuple(faults) as error:
         status, says = faults[type(error)]
@@ -340,7 +340,7 @@ def run_program(words: list[str], data: Union[bytes, Iterable[bytes]] = b"", fil
 
     With a chance, `serve` does its steps in any order. The input of `answer` may come in pieces, and what is written goes
     to `written`, if it is given, as each line is answered. A folder of data is among the files, or is what `folder_at` gives for
-    its path, and for whether it is synced. With --checkpoints, a log is replaced once it has more than `most_log` bytes of batches.
+    its path, and for whether it is synced. There is room for `most_log` bytes of lines in its log (`logged`).
     """
     files = dict(files or {})
 

@@ -8,12 +8,13 @@ from .call_rows import CALL_ROWS
 from .checkpoint_rows import CHECKPOINT_ROWS
 from .cut_rows import CUT_CALLS
 from .data_rows import DATA_CALLS
-from .end_rows import END_CALLS
+from .folder_rows import FOLDER_CALLS
 from .log_rows import LOG_ROWS
 from .once_rows import ONCE, ONCE_CALLS
 from .program import run_program
 from .row import Row
 from .rows import ROWS
+from .running_rows import RUNNING_CALLS
 from .switch_rows import SWITCHED, SWITCH_CALLS
 from .tenant_rows import TENANT_CALLS, TENANT_ROWS
 
@@ -54,7 +55,8 @@ def main() -> int:
     """Prints each row that differs, and last 'N passed, M failed'."""
     passed = failed = 0
     checks = [(row.name, difference, row) for row in (*ROWS, *SWITCHED, *ONCE, *TENANT_ROWS)]
-    calls = (*CALL_ROWS, *LOG_ROWS, *CHECKPOINT_ROWS, *DATA_CALLS, *END_CALLS, *SWITCH_CALLS, *CUT_CALLS, *ONCE_CALLS, *TENANT_CALLS)
+    calls = (*CALL_ROWS, *LOG_ROWS, *CHECKPOINT_ROWS, *DATA_CALLS, *FOLDER_CALLS, *RUNNING_CALLS, *SWITCH_CALLS, *CUT_CALLS, *ONCE_CALLS,
+             *TENANT_CALLS)
     checks += [(check.__name__.replace("_", " "), call_difference, check) for check in calls]
     for name, run, row in checks:
         what = run(row)

@@ -7,7 +7,7 @@ import json
 from .answer_rows import ANSWERED
 from .bytes_rows import BYTES_IN_JOURNALS, BYTES_IN_LINES, MIGRATED
 from .data_rows import DATA
-from .end_rows import ENDED
+from .folder_rows import FOLDERS
 from .journal_rows import JOURNALS, WRITTEN
 from .resting_rows import AGES_OF_KINDS, MISFIT, RESTING
 from .row import Row
@@ -357,4 +357,4 @@ LANES = [
 ]
 
 ROWS = [*COUNTERS, *STORAGE, *OTHER_KINDS, *TENANTS, *CLOCK, *RESTING, *LINES, *BYTES_IN_LINES, *WORDS, *AGES_OF_KINDS, *LANES,
-        *TOLD, *JOURNALS, *BYTES_IN_JOURNALS, *MIGRATED, *ANSWERED, *DATA, *ENDED]
+        *TOLD, *JOURNALS, *BYTES_IN_JOURNALS, *MIGRATED, *ANSWERED, *DATA, *FOLDERS]

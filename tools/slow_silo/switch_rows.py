@@ -1,7 +1,8 @@
 """Worked rows of folders with checkpoints, before and after, to be followed by hand.
 
-`SWITCHED` are inputs of the slow silo alone, in the form that is to come: those of `end_rows` that hold in it, too, and others. Each of
-`SWITCH_CALLS` is a function that says whether it holds. `cut_rows` has lives that end at each call.
+`SWITCHED` are inputs of the slow silo alone, in the form that is to come: those of `folder_rows` that hold in it, too, and others. Each
+of `SWITCH_CALLS` is a function that says whether it holds. `running_rows` has logs that are replaced while a silo runs, and `cut_rows`
+lives that end at each call.
 """
 
 from __future__ import annotations
@@ -9,27 +10,26 @@ from __future__ import annotations
 import pathlib
 import stat
 import tempfile
-from typing import Callable, Iterable, Iterator, Sequence
+from typing import Callable, Iterable, Sequence
 from unittest import mock
 
 from . import logged
 from .checkpoint import checkpoint_text, read_checkpoint, sum_of
 from .checkpoint_rows import TEXT
-from .data import DiskFolder, MemoryFolder
+from .data import DiskFolder
 from .data_rows import ADD, FIRST, GET, MORE, SECOND, TWO
-from .end_rows import BATCH, BEHIND, BOTH as OF_BOTH_FORMS, FAULTY, FIRST_POINT, HEAD, JOINS, KIND_POINT, OF_TEXT, OLD_POINT, OTHER_LOG
-from .end_rows import ROW, ROW_POINT, SAVED, SENT, STALE, WAITING as AT_ONCE
-from .folder_texts import NUMBER, WORDS, after, changed, lines_text, log_of, of, point, setup_and_most, words_said
-from .lines import ReaderFailed
+from .folder_rows import BATCH, BEHIND, BOTH as OF_BOTH_FORMS, FAULTY, FIRST_POINT, HEAD, JOINS, KIND_POINT, OF_TEXT, OLD_POINT, OTHER_LOG
+from .folder_rows import ROW, ROW_POINT, SAVED, SENT, STALE, WAITING as AT_ONCE
+from .folder_texts import KEPT, NUMBER, WORDS, after, changed, lines_text, log_of, of, point, setup_and_most, words_said
 from .log import cut_head, head_with, spelled
 from .logged import text_of
 from .program import Run, run_program
 from .row import Row
+from .running_rows import ran
 from .short_lines import A, BLUE, SHEET, SWEEP, call, no, ok, poke, seen, status, tick
 from .silo import Silo
 from .switched import MOST_LOG
 
-KEPT = ["answer", "--data", "d", "--checkpoints", "red:2:4"]
 WIDER = ["answer", "--data", "d", "--checkpoints", "--age", "7", "--ages", "sheet=5", "--sends", "0", "blue:1:1", "red:3:4"]
 
 
@@ -49,10 +49,6 @@ def with_option(words: Sequence[str]) -> list:
 # ---- starts and ends
 
 STARTS = [
-    row("what a start is asked that answered lines again goes on from their checkpoint", {**BEHIND, "d/log": BATCH}, GET, ok(3, 7),
-        after(point(ADD + MORE + GET, of(point(ADD + MORE, of(FIRST_POINT)))))),
-    row("a torn end behind a batch", {**BEHIND, "d/log": BATCH + "+{"}, GET, ok(3, 7),
-        after(point(ADD + MORE + GET, of(point(ADD + MORE, of(FIRST_POINT)))))),
     row("the log that the checkpoint replaced is passed over, whatever words it has",
         {**STALE, "d/log": log_of(words=WORDS._replace(age=1))}, [], [], BEHIND),
 ]
@@ -175,27 +171,6 @@ SWITCHED: list[Row] = [*(it._replace(words=with_option(it.words)) for it in OF_B
 
 # ---- runs
 
-def switches(batches: list, most: int, before: dict) -> list:
-    """Whether there is another checkpoint behind each batch, of a silo that runs, and the files at the end of the input."""
-    files = {path: content.encode() for path, content in before.items()}
-    seen_: list = [files.get("d/checkpoint")]
-
-    def pieces() -> Iterator[bytes]:
-        for batch in batches:
-            yield lines_text(batch)
-            seen_.append(files.get("d/checkpoint"))
-        raise ReaderFailed
-
-    run = run_program(KEPT, pieces(), folder_at=lambda path, is_synced: MemoryFolder(files, path), most_log=most)
-    assert run.status == 1
-    return [one != other for one, other in zip(seen_, seen_[1:])]
-
-
-def length_of(*batches: tuple) -> int:
-    """The bytes of batches behind a log's head."""
-    return len(log_of(*batches)) - len(log_of())
-
-
 def a_new_folder_has_a_checkpoint_of_its_lines() -> bool:
     """It follows the random number of its first log."""
     run = run_program(KEPT, lines_text(ADD))
@@ -210,21 +185,8 @@ def a_new_folder_that_is_asked_nothing_has_a_log_alone() -> bool:
     return sorted(run_program(KEPT).files) == ["d/lock", "d/log"]
 
 
-def a_log_that_is_longer_than_it_may_be_is_replaced() -> bool:
-    """One that is as long as it may be isn't."""
-    long = length_of(FIRST, SECOND)
-    before = {"d/log": log_of()}
-    return [switches([ADD, MORE, GET], most, before) for most in (long, long - 1)] == [[False, False, True], [False, True, False]]
-
-
-def a_log_that_is_no_longer_than_the_checkpoint_is_not_replaced() -> bool:
-    """Here a log of one line is as long as the checkpoint, or a byte longer."""
-    room = len(FIRST_POINT) - length_of(([""], []))
-    return [switches([["x" * length]], 0, BEHIND) for length in (room, room + 1)] == [[False], [True]]
-
-
 def an_input_that_fails_leaves_no_checkpoint() -> bool:
-    return switches([ADD, MORE], MOST_LOG, {"d/log": log_of()}) == [False, False]
+    return ran(KEPT, {"d/log": log_of()}, [ADD, MORE], MOST_LOG, True).left == {"d/log": log_of(FIRST, SECOND), "d/lock": ""}
 
 
 def so_does_one_that_is_too_long() -> bool:
@@ -236,6 +198,8 @@ def so_does_one_that_is_too_long() -> bool:
 
 
 STORY_WORDS = ["answer", "--data", "d", "--checkpoints", "--sends", "1", "--age", "10", "--ages", "sheet=3", "red:4:4", "blue:2:2"]
+# those of the program's form
+PROGRAM_WORDS = [word for word in STORY_WORDS if word != "--checkpoints"]
 STORY = (JOINS + SENT[2:] + ADD + call(4, A, "save") + ["", "hello"] + call(5, SHEET, "put", {"name": "k", "value": [1, {"$hex": "00"}]})
          + tick(2) + call(6, SHEET, "stay", {"for": 9}) + SENT[2:] + poke(7, A, 40) + call(8, "counter/blue:a", "add", {"by": 5}, BLUE)
          + call(9, A, "save") + tick(9) + SWEEP + call(10, "counter/blue:a", "save", None, BLUE) + call(11, A, "get") + tick(11) + SWEEP
@@ -251,13 +215,14 @@ def answers_of(lines: list, words: Sequence[str] = STORY_WORDS) -> list:
     return [text_of(silo, line.encode(), most) for line in lines]
 
 
-def with_switches(pieces: Iterable[list], most: int, files: dict) -> Run:
-    return run_program(STORY_WORDS, [lines_text(piece) for piece in pieces], files, most_log=most)
+def with_switches(pieces: Iterable[list], most: int, files: dict, words: Sequence[str] = STORY_WORDS) -> Run:
+    return run_program(list(words), [lines_text(piece) for piece in pieces], files, most_log=most)
 
 
 def a_run_answers_the_same_whenever_it_is_switched() -> bool:
-    wanted = b"".join(answers_of(STORY))
-    return all(with_switches([[line] for line in STORY], most, {}).out == wanted for most in (0, 150, 400, MOST_LOG))
+    wanted, alone = b"".join(answers_of(STORY)), [[line] for line in STORY]
+    return all(with_switches(pieces, most, {}, words).out == wanted for words in (STORY_WORDS, PROGRAM_WORDS) for pieces in (alone, [STORY])
+               for most in (0, 150, 400, MOST_LOG))
 
 
 def so_do_two_runs_wherever_the_first_one_ends() -> bool:
@@ -333,7 +298,6 @@ def a_checkpoint_that_is_a_link_is_not_read() -> bool:
 
 SWITCH_CALLS: tuple[Callable[[], bool], ...] = (
     a_new_folder_has_a_checkpoint_of_its_lines, a_new_folder_that_is_asked_nothing_has_a_log_alone,
-    a_log_that_is_longer_than_it_may_be_is_replaced, a_log_that_is_no_longer_than_the_checkpoint_is_not_replaced,
     an_input_that_fails_leaves_no_checkpoint, so_does_one_that_is_too_long, a_run_answers_the_same_whenever_it_is_switched,
     so_do_two_runs_wherever_the_first_one_ends, a_run_for_each_line_answers_what_one_run_does,
     a_checkpoint_on_the_disk_is_its_owners_and_goes_on, rows_are_listed_while_a_silo_has_the_folder,

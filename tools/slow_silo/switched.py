@@ -8,8 +8,9 @@ and then a new log, without a batch, in the place of the old log. So whatever a 
 - a checkpoint and its log: the lines are answered again from what the checkpoint has;
 - a checkpoint and the log that it replaced: all of the log is in the checkpoint.
 
-Any other log is refused. Two forms differ in when a checkpoint is made, and in the folders from which a start goes on: `AT_THE_END`, which
-the program has, and `full`, which is to come.
+Any other log is refused. A log is replaced once a start has answered lines of it again, once it got more bytes of lines than there is room
+for, and at the end of the input, if it has lines (`logged`). Two forms differ in the folders from which a start goes on: `of_program`, and
+`full`, which is to come, and in which a start may have other words than the folder.
 
 A start has the tenants of its words. With `--operator` these count in a folder without a checkpoint alone, in both forms: one with a
 checkpoint has its own table, which lines of its operator may have changed, and no start takes back what they did. Callers keep their
@@ -28,7 +29,7 @@ from .log import DIGITS, OtherWords, Words, cut_head, first_difference, head_wit
 from .logged import Found, Log, LogRefused, answer_again, begin_log, random_number, words_of
 from .silo import Setup, Silo
 
-# bytes of batches up to which a silo that runs goes on with its log
+# bytes of lines up to which a silo that runs goes on with its log, unless the last checkpoint that it made has more
 MOST_LOG = 16_777_216
 IS_NUMBER = re.compile(b"[0-9a-f]{%d}" % DIGITS).fullmatch
 
@@ -125,12 +126,12 @@ def look_at_tenants(silo: Silo, setup: Setup) -> None:
 # ---- the two forms
 
 class Form(NamedTuple):
-    """When a checkpoint is made, beside the end of the input, and from which folders a start goes on."""
+    """From which folders a start goes on, and how long a log may be."""
 
-    # whether a start makes one of lines that were answered again, and may have other words than the folder
-    at_start: bool
-    # bytes of batches up to which a silo that runs makes none; none if it never does
-    most_log: Optional[int]
+    # bytes of its lines
+    most_log: int
+    # whether a start may have other words than the folder, which then gets a checkpoint under them
+    other_words: bool
     rules: Rules
     # whether a log may go on from nothing that has this number
     is_first: Callable[[bytes], object]
@@ -138,12 +139,13 @@ class Form(NamedTuple):
     looks: tuple[Callable[[Beside], None], ...]
 
 
-AT_THE_END = Form(False, None, LOOSE, lambda _number: True,
-                  (look_at_words, look_for_log, look_at_head, look_at_number, look_at_grains, look_at_counts))
+def of_program(most_log: int) -> Form:
+    return Form(most_log, False, LOOSE, lambda _number: True,
+                (look_at_words, look_for_log, look_at_head, look_at_number, look_at_grains, look_at_counts))
 
 
 def full(most_log: int) -> Form:
-    return Form(True, most_log, STRICT, IS_NUMBER, (look_at_kinds, look_for_log, look_at_number))
+    return Form(most_log, True, STRICT, IS_NUMBER, (look_at_kinds, look_for_log, look_at_number))
 
 
 # ---- a start
@@ -151,11 +153,11 @@ def full(most_log: int) -> Form:
 def found_without(content: Optional[bytes], setup: Setup, words: Words, form: Form) -> Found:
     """What a folder without a checkpoint has."""
     if content is None:
-        return Found(Silo(setup), 0, words, random_number(), None)
+        return Found(Silo(setup), words, random_number(), None)
     number, _end = cut_head(words, content)
     if not form.is_first(number):
         raise OtherWords
-    return Found(Silo(setup), 0, words, number, content)
+    return Found(Silo(setup), words, number, content)
 
 
 def found_with(text: bytes, content: Optional[bytes], words: Words, form: Form) -> Found:
@@ -165,14 +167,14 @@ def found_with(text: bytes, content: Optional[bytes], words: Words, form: Form) 
     it = Beside(checkpoint, setup, words_of(setup, checkpoint.sends), words, spelled(sum_of(text)), content)
     for look in form.looks:
         look(it)
-    return Found(reopened(checkpoint, setup), len(text), it.words, it.number, content if it.has_own_log() else None)
+    return Found(reopened(checkpoint, setup), it.words, it.number, content if it.has_own_log() else None)
 
 
 def start(folder: Folder, setup: Setup, sends: int, form: Form) -> tuple[Silo, Log]:
     """The silo to which the folder leads, and its log; what stands behind the log's last batch is cut off. Nothing changes in a folder
     that is refused.
 
-    In the full form, if the folder has other words, or a line was answered again, there is a new checkpoint, and the log has no batch.
+    If a line was answered again, or the folder has other words, a checkpoint then takes the log's place.
     """
     words, content = words_of(setup, sends), folder.open()
     text = folder.own_checkpoint()
@@ -182,15 +184,14 @@ def start(folder: Folder, setup: Setup, sends: int, form: Form) -> tuple[Silo, L
     if setup.operator:
         setup = setup._replace(tenants=found.silo.setup.tenants)
         words = words_of(setup, sends)
-    is_left = form.at_start and (found.words != words or has_lines)
-    if form.at_start:
+    is_left = has_lines or found.words != words
+    if form.other_words:
         look_at_tenants(found.silo, setup)
     place = begin_log(folder, found.words, found.number) if again is None else again.place
-    if again is not None and not is_left and again.length != len(found.log):
+    if again is not None and again.length != len(found.log):
         folder.keep(again.length)
-    if is_left:
-        kept = checkpoint_of(found.silo, found.number.decode(), sends)
-        found = found._replace(silo=reopened(kept, setup), words=words)
+    if found.words != words:
+        found = found._replace(silo=reopened(checkpoint_of(found.silo, "", sends), setup), words=words)
     log = Log(folder, found, place, has_lines, form.most_log)
     if is_left:
         log.switch()

@@ -8,10 +8,10 @@ from __future__ import annotations
 from typing import Callable, Sequence
 
 from .data_rows import ADD, GET
-from .end_rows import JOINS, OTHER_WORDS, SENT
+from .folder_rows import JOINS, OTHER_WORDS, SENT
 from .folder_texts import after, changed, lines_text, log_of, of, point, words_said
 from .machine import Limits
-from .once_rows import add, at_end, last, of_both_forms, once, saw
+from .once_rows import add, of_program, last, of_both_forms, once, saw
 from .program import run_program
 from .row import Row
 from .short_lines import A, B, BLUE, BLUE_A, NOT_A_REQUEST, RELAY, SHEET, SWEEP, call, line, no, ok, poke, seen, status, tick, told
@@ -126,6 +126,8 @@ CLOSING = tenant("grey", 1, 1) + drop("grey")
 ROWS_OF_BOTH = [
     row("tenants that came are in the checkpoint", {"d/log": BEGUN}, CAME, CAME_TOLD, after(LEFT, WIDE), OPEN),
     row("their lines are in the log", {"d/log": log_of((CAME, CAME_TOLD), words=words_said(OPEN))}, [], [], after(LEFT, WIDE), OPEN),
+    row("and what is asked goes on from their checkpoint", {"d/log": log_of((CAME, CAME_TOLD), words=words_said(OPEN))}, BLUE_GET,
+        ok(1, 0, BLUE), after(point(BLUE_GET * 2, of(LEFT), WIDE), WIDE), OPEN),
     row("the log that the checkpoint replaced is passed over, whatever tenants it has",
         {"d/checkpoint": LEFT, "d/log": log_of((CAME, CAME_TOLD), words=words_said(OPEN))}, [], [], after(LEFT, WIDE), OPEN),
     goes_on("a start goes on with them, whatever tenants its words have", OPEN, [], [], LEFT, WIDE),
@@ -143,14 +145,11 @@ STARTS = [
     row("a folder of before has its own tenants, too", after(point(ADD + BLUE_GET, words=BACK), BACK), [], [],
         after(changed(point(ADD + BLUE_GET, words=BACK), of(point(ADD + BLUE_GET, words=BACK)), "operator 0", "operator 1"),
               [*OPEN, "blue:1:1"]), [*OPEN, "grey:1:1"]),
-    row("with a checkpoint at the end alone, it has what was answered again and what was asked",
-        {"d/log": log_of((CAME, CAME_TOLD), words=words_said(OPEN))}, BLUE_GET, ok(1, 0, BLUE),
-        after(point(BLUE_GET * 2, words=WIDE), WIDE), at_end(OPEN)),
-    refused("without the option its words are others then", after(LEFT, WIDE), 2, OTHER_WORDS, at_end(BACK)),
-    refused("so are those of a folder of before", after(point(ADD, words=CLOSED), CLOSED), 2, OTHER_WORDS, at_end(OPEN)),
-    refused("and other ages, whatever tenants they have", after(LEFT, WIDE), 2, OTHER_WORDS, [*at_end(OPEN), "--age", "5"]),
+    refused("without the option its words are others then", after(LEFT, WIDE), 2, OTHER_WORDS, of_program(BACK)),
+    refused("so are those of a folder of before", after(point(ADD, words=CLOSED), CLOSED), 2, OTHER_WORDS, of_program(OPEN)),
+    refused("and other ages, whatever tenants they have", after(LEFT, WIDE), 2, OTHER_WORDS, [*of_program(OPEN), "--age", "5"]),
     refused("a log of the checkpoint's number with other tenants",
-            {"d/checkpoint": LEFT, "d/log": log_of(words=words_said(OPEN), number=of(LEFT))}, 2, OTHER_WORDS, at_end(OPEN)),
+            {"d/checkpoint": LEFT, "d/log": log_of(words=words_said(OPEN), number=of(LEFT))}, 2, OTHER_WORDS, of_program(OPEN)),
 ]
 
 # ---- bytes
@@ -247,8 +246,8 @@ ROOM_STARTS = [
     row("without the option nothing is counted", after(KEPT_POINT, KEPT_WORDS), ADD, ok(1, 3),
         after(point(PUT + ADD, of(changed(point(PUT, words=["answer", "red:9:4"]), of(KEPT_POINT))), ["answer", "red:9:4"]),
               ["answer", "red:9:4"]), ["answer", "--data", "d", "--checkpoints", "red:9:4"]),
-    refused("with a checkpoint at the end alone, other bytes are other words", after(KEPT_POINT, KEPT_WORDS), 2, OTHER_WORDS,
-            at_end(NARROW)),
+    refused("in the form of the program, other bytes are other words", after(KEPT_POINT, KEPT_WORDS), 2, OTHER_WORDS,
+            of_program(NARROW)),
 ]
 
 TENANT_ROWS: list[Row] = [*COMING, *KEEPING, *FORMS, *of_both_forms(ROWS_OF_BOTH), *STARTS, *ROOM, *of_both_forms(ROOM_OF_BOTH),

@@ -150,7 +150,8 @@ class Ends(Gateways):
             self.assertEqual([silo.call(WEB, COUNTER, "add", {"by": 1}) for _ in range(3)], [1, 2, 3])
             gateway.kill_program()
             self.assertEqual(silo.call(WEB, COUNTER, "add", {"by": 1}), 4)
-            gateway.close()
+            # the folder may go once nobody writes to it
+            self.assertEqual(gateway.end(), 0)
 
     def test_in_order_by_a_signal(self) -> None:
         gateway = self.gateway()

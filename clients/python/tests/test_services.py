@@ -90,4 +90,5 @@ class Chat(Gateways):
             self.assertEqual(self.told(bob, "join lobby", "say lobby hello"), ["bob is in lobby", "1"])
             gateway.kill_program()
             self.assertEqual(self.told(ann, "unread", "read lobby", "say lobby yes"), ["lobby: 1", "bob: hello", "2"])
-            gateway.close()
+            # the folder may go once nobody writes to it
+            self.assertEqual(gateway.end(), 0)

@@ -12,7 +12,8 @@ use Rattle.silo_checkpoint.proofs.OneSaved.{one_saved}
 use Rattle.command_parts.specs.Setups.{Start, started}
 use Rattle.command_parts.specs.declared.failure.Cause.{Cause}
 use Rattle.command_parts.specs.declared.failure.Cause.TheVariants as cause
-use Rattle.data_command.specs.Data.{DataLasts, LeavesLog, LogView, since}
+use Rattle.data_command.specs.Data.{LeavesLog, LogView, since}
+use Rattle.data_command.specs.Passing.{RunLasts}
 use Rattle.data_command.specs.Folder.{FailsToOpen, FolderLasts, FromFolder, OpeningFailsBy, OpensAt}
 use Rattle.data_command.specs.Words.{head_words}
 use Rattle.data_command.specs.declared.fault.DataFault.{DataFault}
@@ -114,7 +115,7 @@ module _ (start : Start) (sends : ℕ) (old now : LogView) (log : Option (List �
       lasts_old bytes there has new may past e = by (may (known e))
         where
           by : IsAt new.acts new.begun now.begun ⊎ IsAt new.acts new.begun (Some (head_text words (spelled (sum_in point))))
-              → (IsAt new.acts new.begun old.begun × (new.past ≡ old.past)) ⊎ FromFolder start sends old (λ own view. DataLasts own sends (since view new))
+              → (IsAt new.acts new.begun old.begun × (new.past ≡ old.past)) ⊎ FromFolder start sends old (λ own view. RunLasts own sends (since view new))
           by (inl at) = inl ((at.0, at.1 ∙ (f.left e).0.1), past ∙ (f.left e).1)
           by (inr at) = inr (record {
             own = started start.version saved.setup;

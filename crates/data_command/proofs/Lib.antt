@@ -3,3 +3,5 @@ pub mod Replaced
 pub mod Standing
 pub mod Beginnings
 pub mod Runs
+pub mod Segments
+pub mod OnLogs

@@ -1,5 +1,5 @@
 -- A checkpoint takes the place of a log.
-use Rattle.std.proofs.Common.{◌≡◌, ◌∙◌, ℕ, List, [], Option, Some, inl, inr, sym, ap, subst}
+use Rattle.std.proofs.Common.{◌≡◌, ◌∙◌, ℕ, List, [], Option, Some, inl, inr, refl, sym, ap, subst}
 use Rattle.std.specs.Prelude.{◌⊎◌}
 use Rattle.std.proofs.lemmas.Option.{same_Some}
 use Rattle.grain_logic.specs.Logic.{Logic}
@@ -14,9 +14,10 @@ use Rattle.log_host.specs.Acts.{Act}
 use Rattle.log_host.specs.Files.{IsAt, MaySwitch, Past, Switches, with_log, with_point}
 use Rattle.silo_checkpoint.specs.Saved.{HasText, sum_in}
 use Rattle.command_parts.specs.Setups.{Start, Version, started}
-use Rattle.data_command.specs.Data.{LogView, Stands, StandsAt, TakesPlace, since}
+use Rattle.data_command.specs.Data.{IsReplaced, LogView, Stands, StandsAt, TakesPlace, place_of, since}
 use Rattle.data_command.specs.Words.{head_words}
-use Rattle.data_command.specs.inside.Replacing.{AreTexts, MayBeReplaced}
+use Rattle.data_command.specs.inside.Replacing.{AreTexts, IsNext, MayBeReplaced}
+use Rattle.data_command.specs.declared.starting.StartedLog.{StartedLog}
 
 -- a silo without a step is at its opening
 pub at_opening : (logic : Logic) (h : History) → LeadsTo logic h.setup h.journal h.whole → h.journal ≡ [] → opening h.setup ≡ h.whole
@@ -49,14 +50,28 @@ module _ (start : Start) (version : Version) (sends : ℕ) (words number : List 
     next_head = t.headed ∙ ap (λ (ws : List ℕ). head_text ws (spelled (sum_in text))) m.worded
 
     module _ (after : LogView) where
-      replaced : IsAt after.acts after.begun (Some head) × (after.past ≡ with_log mid.past text mid.begun acts) → Stands start sends (since old after) number bytes acts
-      replaced s = inr (inr (record {
+      is_replaced : IsAt after.acts after.begun (Some head) × (after.past ≡ with_log mid.past text mid.begun acts) → IsReplaced start sends (since old after) number bytes acts
+      is_replaced s = record {
         next = new.setup;
         point = text;
         takes = takes;
         past = s.1 ∙ ap (λ (p : Past). with_log p text mid.begun acts) m.past ∙ ap (λ (o : Option (List ℕ)). with_log old.past text o acts) m.stands.begun;
         at = (s.0.0, s.0.1 ∙ ap Some next_head);
-      }))
+      }
+
+      replaced : IsAt after.acts after.begun (Some head) × (after.past ≡ with_log mid.past text mid.begun acts) → Stands start sends (since old after) number bytes acts
+      replaced s = inr (inr (is_replaced s))
+
+      -- and the next log goes on from there
+      pub next_is : (log : StartedLog) → log.number ≡ spelled (sum_in text) → log.place ≡ place_of words log.number → Switches mid.acts mid.begun mid.past after.acts after.begun after.past text head
+          → IsNext start sends (since old after) number bytes acts new.setup log
+      unfolding is_replaced
+      next_is log spelt placed s = record {
+        is = is_replaced (s acts m.stands.acts_are);
+        setup = refl;
+        number_is = spelt;
+        place_is = placed ∙ ap (λ (ws : List ℕ). place_of ws log.number) m.worded;
+      }
 
       pub switched : Switches mid.acts mid.begun mid.past after.acts after.begun after.past text head → Stands start sends (since old after) number bytes acts
       switched s = replaced (s acts m.stands.acts_are)

@@ -4,7 +4,6 @@ use Rattle.silo_model.specs.Opening.{Setup, opening}
 use Rattle.silo_model.specs.Segments.{untold}
 use Rattle.silo_model.specs.Whole.{Whole}
 use Rattle.silo_core.specs.History.{History}
-use Rattle.line_protocol.specs.Lines.{lines_of}
 use Rattle.line_protocol.specs.Reading.{Reading}
 use Rattle.log_text.specs.Lines.{whole_lines}
 use Rattle.log_text.specs.Head.{IsNumber, first_sum, form_line, head_text, name_of}
@@ -169,10 +168,6 @@ module _ (start : Start) (sends : ℕ) where
       pub always : Always (Lasts (data_log number)) (restarted (data_log number) bytes) acts
       pub stands : Stands number bytes acts
 
-    -- The same, if the log is known.
-    abbrev pub CutsLog : Type 0
-    CutsLog = log.old.acts ≡ Some [] → LastsOn
-
     -- The same, if the log is known; or nothing was done to it.
     abbrev pub DataLasts : Type 0
     DataLasts = log.old.acts ≡ Some [] → (IsAt log.new.acts log.new.begun log.old.begun × (log.new.past ≡ log.old.past)) ⊎ LastsOn
@@ -181,10 +176,6 @@ module _ (start : Start) (sends : ℕ) where
     pub record HasLines (lines : List (List ℕ)) : Type 0 where
       pub on : LastsOn
       pub keeps : KeepsLines (data_log on.number) (restarted (data_log on.number) on.bytes) lines [] (Some on.acts)
-
-    -- the same of the lines of an input, if both are known
-    abbrev pub HasInput : Option (List ℕ) → Type 0
-    HasInput from = log.old.acts ≡ Some [] → IfSome from (λ input. HasLines (lines_of input))
 
     -- ---- what is answered
 
@@ -207,7 +198,7 @@ module _ (start : Start) (sends : ℕ) where
       pub silo : History
       pub starts : StartsFrom found silo
       pub stopped : IfSome from (λ input.
-          StopsLogged start.version.logic sends input reading left log.new.failed silo.whole before after why)
+          StopsLogged start.version.logic sends 0 input reading left log.new.failed silo.whole before after why)
 
     -- ---- a log that isn't gone on with
 

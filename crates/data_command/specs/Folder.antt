@@ -12,8 +12,9 @@ use Rattle.command_parts.specs.Setups.{Start}
 use Rattle.command_parts.specs.Streams.{IsUnbegun}
 use Rattle.command_parts.specs.declared.failure.Cause.{Cause}
 use Rattle.command_parts.specs.declared.failure.Cause.TheVariants as cause
-use Rattle.data_command.specs.Data.{AnswersData, DataFailsBy, DataLasts, HasInput, HasOtherWords, IsFound, IsFoundPoint, IsNoLog}
+use Rattle.data_command.specs.Data.{AnswersData, DataFailsBy, HasOtherWords, IsFound, IsFoundPoint, IsNoLog}
 use Rattle.data_command.specs.Data.{LeavesLog, LogClaims, LogView, since}
+use Rattle.data_command.specs.Passing.{RunHas, RunLasts}
 use Rattle.data_command.specs.Words.{head_words, words_by}
 use Rattle.data_command.specs.declared.fault.DataFault.{DataFault}
 use Rattle.data_command.specs.declared.fault.DataFault.TheVariants as data_fault
@@ -80,13 +81,13 @@ module _ (start : Start) (sends : ℕ) where
         FromFolder log.old (λ own view. AnswersData own sends (since view log.new) from left before after)
 
     abbrev pub FolderHas : Option (List ℕ) → Type 0
-    FolderHas from = FromFolder log.old (λ own view. HasInput own sends (since view log.new) from)
+    FolderHas from = FromFolder log.old (λ own view. RunHas own sends (since view log.new) from)
 
     -- in every outcome, if the log is known: nothing was done, or it lasts from there on
     abbrev pub FolderLasts : Type 0
     FolderLasts = log.old.acts ≡ Some []
         → (IsAt log.new.acts log.new.begun log.old.begun × (log.new.past ≡ log.old.past))
-        ⊎ FromFolder log.old (λ own view. DataLasts own sends (since view log.new))
+        ⊎ FromFolder log.old (λ own view. RunLasts own sends (since view log.new))
 
     -- ---- a folder that isn't gone on with
 

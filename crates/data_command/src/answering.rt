@@ -4,7 +4,8 @@ ghost use Rattle.std.specs.Prelude.{◌≡◌, [], false, true, IfErr, IfOk, OnE
 ghost use Rattle.silo_model.specs.Opening.{opening};
 ghost use Rattle.line_protocol.specs.Reading.{IsFresh};
 ghost use Rattle.command_parts.specs.Setups.{started, starting, version_of};
-ghost use Rattle.data_command.specs.Data.{AnswersData, CutsLog, DataFailsBy, DataLasts, HasInput, log_claims};
+ghost use Rattle.data_command.specs.Data.{AnswersData, DataFailsBy, log_claims};
+ghost use Rattle.data_command.specs.Passing.{RunCuts, RunHas, RunLasts};
 ghost use Rattle.data_command.specs.Folder.{FolderAnswers, FolderFailsBy, FolderHas, FolderLasts};
 ghost use Rattle.data_command.specs.Words.{head_words};
 ghost use Rattle.data_command.specs.inside.Starts.{running_cause};
@@ -15,13 +16,13 @@ use crate::head::head_words;
 use crate::opening::DataOpening;
 use crate::ready::{ReadySilo, ready_silo};
 use crate::replacing::replace_log;
-use crate::starting::{LogTask, start_log};
+use crate::starting::{LogTask, StartedLog, start_log};
 use command_parts::{Cause, DataFiles};
 use grain_logic::GrainLogic;
 use grain_storage::MemoryStorage;
 use line_answer::AnsweringSilo;
 use line_protocol::{Input, LineReader, Output};
-use log_answer::{LogFault, answer_logged};
+use log_answer::{LogFault, RunFrom, answer_logged};
 use silo_words::Data;
 use std::alloc::{AllocError, Global};
 use std::io::{Read, Write};
@@ -42,8 +43,8 @@ fn running_cause(fault: LogFault) -> Cause
     }
 }
 
-/// Starts the silo's log, then answers each line of the input. A line is in the log before any reply to it is written. In the end
-/// a checkpoint takes the place of a log that has lines.
+/// Starts the silo's log, then answers each line of the input. A line is in the log before any reply to it is written. A checkpoint takes
+/// the place of a log that has lines: after the start, once the log is long, and in the end.
 fn answer_on<L: GrainLogic, F: DataFiles, R: Read, W: Write>(
     alloc: Global,
     silo: &mut AnsweringSilo<MemoryStorage, L>,
@@ -56,12 +57,13 @@ fn answer_on<L: GrainLogic, F: DataFiles, R: Read, W: Write>(
     requires opened { silo.old.history.whole ≡ opening silo.old.history.setup }
     requires words { task.old.words.items ≡ head_words
         (started (version_of L.logic task.old.kinds) silo.old.history.setup) task.old.sends }
+    requires drops { silo.old.keeps ≡ false }
     requires fresh { IsFresh input.old.lines }
     requires found { F.acts files.old ≡ Some [] → F.begun files.old ≡ option_map (λ bytes. bytes.items) task.old.log }
     ensures answered { OnOk result (AnswersData (started (version_of L.logic task.old.kinds) silo.old.history.setup)
         task.old.sends (log_claims F.begun F.acts F.past F.failed files.old files.new)
         (R.remaining input.old.reader) (R.remaining input.new.reader) (W.contents output.old.writer) (W.contents output.new.writer)) }
-    ensures has { OnOk result (task.old.sync ≡ true → HasInput (started (version_of L.logic task.old.kinds) silo.old.history.setup)
+    ensures has { OnOk result (task.old.sync ≡ true → RunHas (started (version_of L.logic task.old.kinds) silo.old.history.setup)
         task.old.sends (log_claims F.begun F.acts F.past F.failed files.old files.new) (R.remaining input.old.reader)) }
     ensures output { OnOk result (output.new.calls.failed ≡ output.old.calls.failed) }
     ensures out { OnOk result (output.old.calls.held ≡ false → output.new.calls.held ≡ false) }
@@ -69,16 +71,16 @@ fn answer_on<L: GrainLogic, F: DataFiles, R: Read, W: Write>(
         (log_claims F.begun F.acts F.past F.failed files.old files.new) why
         (R.remaining input.old.reader) (R.remaining input.new.reader) input.new.lines
         (W.contents output.old.writer) (W.contents output.new.writer)) }
-    ensures cut { OnOk result (task.old.sync ≡ true → CutsLog (started (version_of L.logic task.old.kinds) silo.old.history.setup)
+    ensures cut { OnOk result (task.old.sync ≡ true → RunCuts (started (version_of L.logic task.old.kinds) silo.old.history.setup)
         task.old.sends (log_claims F.begun F.acts F.past F.failed files.old files.new)) }
-    ensures lasts { task.old.sync ≡ true → DataLasts (started (version_of L.logic task.old.kinds) silo.old.history.setup) task.old.sends
+    ensures lasts { task.old.sync ≡ true → RunLasts (started (version_of L.logic task.old.kinds) silo.old.history.setup) task.old.sends
         (log_claims F.begun F.acts F.past F.failed files.old files.new) }
 {
     let Ok(lines) = LineReader::with_capacity(alloc, READ_BYTES) else {
         return Err(DataFault::Failed(Cause::Memory));
     };
     let (sync, sends) = (task.sync, task.sends);
-    let begun = match start_log(alloc, files, silo, task) {
+    let mut begun = match start_log(alloc, files, silo, task) {
         Ok(begun) => begun,
         Err(why) => {
             drop(lines);
@@ -87,16 +89,29 @@ fn answer_on<L: GrainLogic, F: DataFiles, R: Read, W: Write>(
     };
     files.set_sync(sync);
     input.lines = lines;
-    let count = match answer_logged(alloc, input, output, files, begun.place, silo, sends) {
-        Ok(count) => count,
-        Err(why) => return Err(DataFault::Failed(running_cause(why))),
-    };
-    if count == 0 && !begun.has_lines {
-        return Ok(());
-    }
-    match replace_log(alloc, files, silo, task, begun.number.as_slice()) {
-        Ok(()) => Ok(()),
-        Err(why) => Err(DataFault::Failed(why)),
+    let mut count = 0;
+    let mut ended = false;
+    'logs: loop {
+        match replace_log(alloc, files, silo, task, &mut begun) {
+            Ok(()) => {}
+            Err(why) => return Err(DataFault::Failed(why)),
+        }
+        if ended {
+            return Ok(());
+        }
+        let StartedLog { place, room, .. } = begun;
+        let from = RunFrom { place, count, room };
+        let ran = match answer_logged(alloc, input, output, files, from, silo, sends) {
+            Ok(ran) => ran,
+            Err(why) => return Err(DataFault::Failed(running_cause(why))),
+        };
+        begun = StartedLog {
+            place: ran.place,
+            has_lines: begun.has_lines || ran.count > count,
+            ..begun
+        };
+        count = ran.count;
+        ended = !ran.paused;
     }
 }
 
@@ -121,8 +136,8 @@ fn words_for<L: GrainLogic>(alloc: Global, opening: &DataOpening<L>) -> Result<V
 /// folder's checkpoint and the log after it lead. The folder and its log are made if they aren't there. Each line is in the log, and on
 /// the disk if `folder.sync` is set, before any reply to it is written. The replies to the lines of one read, which brings
 /// at most 1,048,576 bytes, are written together, or in parts if a batch is full before. The silo drops its history
-/// from time to time, while it answers the log's lines again and afterwards. At the end of the input a checkpoint takes the place of a
-/// log that has lines.
+/// from time to time, while it answers the log's lines again and afterwards. A checkpoint takes the place of a log that has lines after the
+/// start, once it got 16,777,216 bytes of lines or as many as the last checkpoint has, and at the end of the input.
 ///
 /// # Errors
 ///

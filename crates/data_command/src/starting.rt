@@ -34,12 +34,17 @@ pub(crate) struct LogTask {
     pub(crate) log: Option<Vec<u8>>,
 }
 
-/// A log that is gone on with at a place: its number, as it is spelled, and whether it has a batch.
+/// Bytes of lines that a log gets, at most, before a checkpoint takes its place; more if the last checkpoint is longer.
+pub(crate) const LOG_ROOM: u64 = 16_777_216;
+
+/// A log that is gone on with at a place: its number, as it is spelled, whether it has a batch, and how many bytes of lines more it may get
+/// before a checkpoint takes its place.
 #[derive(Clone, Copy)]
 pub(crate) struct StartedLog {
     pub(crate) place: LogPlace,
     pub(crate) number: [u8; 16],
     pub(crate) has_lines: bool,
+    pub(crate) room: u64,
 }
 
 /// Begins a log of this number for these words.
@@ -168,6 +173,7 @@ fn resume_log<F: DataFiles, L: GrainLogic>(
         place: again.place,
         number: digits_of(number),
         has_lines: again.lines > 0,
+        room: LOG_ROOM,
     })
 }
 
@@ -206,6 +212,7 @@ pub(crate) fn start_log<F: DataFiles, L: GrainLogic>(
             place,
             number: spell(task.number),
             has_lines: false,
+            room: LOG_ROOM,
         }),
         Err(why) => Err(DataFault::Failed(why)),
     }

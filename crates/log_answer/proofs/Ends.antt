@@ -1,5 +1,5 @@
 -- How an input ends, and what was told by then.
-use Rattle.std.proofs.Common.{◌≡◌, ◌∙◌, ◌≢◌, ℕ, Bool, true, List, [], ◌++◌, length, Option, Some, None, IfSome, append_assoc, append-nil, refl, ap, sym, subst, inl, inr}
+use Rattle.std.proofs.Common.{◌≡◌, ◌∙◌, ◌≢◌, ℕ, ◌+◌, Bool, true, List, [], ◌++◌, length, Option, Some, None, IfSome, append_assoc, append-nil, refl, ap, sym, subst, inl, inr}
 use Rattle.std.specs.Io.KnownBytes.{Appends, Keeps, IsAtEnd}
 use Rattle.std.proofs.KnownBytes.{Keeps-refl}
 use Rattle.grain_logic.specs.Logic.{Logic}
@@ -17,7 +17,7 @@ use Rattle.log_host.specs.Lasting.{IsAsked, LastsFrom, lines_in}
 use Rattle.log_host.specs.declared.place.LogPlace.{LogPlace}
 use Rattle.log_host.proofs.Known.{none_written}
 use Rattle.log_answer.specs.Answers.{kept_lines, led, silo_log, told_for}
-use Rattle.log_answer.specs.Runs.{AnswersLogged, GoesOn, KeepsLines, StopsLogged, TellsFirst}
+use Rattle.log_answer.specs.Runs.{GoesOn, StopsLogged, TellsFirst}
 use Rattle.log_answer.specs.inside.Commits.{Breaks, Commits, Settles, StopsTaking}
 use Rattle.log_answer.specs.declared.running.LogFault.{LogFault}
 use Rattle.log_answer.specs.declared.running.LogFault.TheVariants as fault
@@ -25,40 +25,6 @@ use Rattle.log_answer.proofs.Done.{Done, breaks_last, is_asked, done_committed, 
 use Rattle.log_answer.proofs.Led.{is_led, kept_append}
 
 module _ (logic : Logic) (n count : ℕ) (old now : History) (before : Option (List ℕ)) (asked texts : List ℕ) where
-  -- ---- the end of the input
-
-  pub done_all : (total : ℕ) (from : Option (List ℕ)) (reading : Reading) (rest after : Option (List ℕ)) (told : List (List ℕ))
-      → total ≡ count → IsFresh reading → IsAtEnd rest → Done logic n count from (left_of reading rest) old now before after asked texts told []
-      → IfSome from (λ input. AnswersLogged logic n input total old now rest before after)
-  done_all total None reading rest after told same none end p = tt
-  done_all total (Some input) reading rest after told same none end p =
-      let whole = all_taken_here input reading rest (told ++ []) none end p.taken in
-      let lines : lines_of input ≡ told = whole.1 ∙ append-nil told in
-      record {
-        read = whole.0;
-        counted = same ∙ sym p.counted ∙ ap length (sym whole.1);
-        leads = is_led logic n old now (lines_of input) p.leads p.setup (p.whole ∙ ap (led logic n old.whole) (sym whole.1)) p.idle;
-        written = subst (λ l. Appends before after (told_for logic n old.whole l)) (sym lines) p.written;
-      }
-
-  pub keeps_all : (from : Option (List ℕ)) (reading : Reading) (rest after : Option (List ℕ)) (told : List (List ℕ)) (place : LogPlace) (sum : ℕ) (start new : Option (List Act))
-      → IsFresh reading → IsAtEnd rest → Done logic n count from (left_of reading rest) old now before after asked texts told []
-      → ((w : Whole) (first : ℕ) (h : Held) (acts : List Act) → start ≡ Some acts → GoesOn logic n w first place h old.whole
-      → Settles (silo_log logic n w place.name first) h (kept_lines told) acts new sum)
-      → IfSome from (λ input. (w : Whole) (first : ℕ) (h : Held) (acts : List Act) → start ≡ Some acts → GoesOn logic n w first place h old.whole
-      → KeepsLines (silo_log logic n w place.name first) h (lines_of input) acts new)
-  keeps_all None reading rest after told place sum start new none end p settles = tt
-  keeps_all (Some input) reading rest after told place sum start new none end p settles = λ w first h acts is on.
-      let lines : lines_of input ≡ told = (all_taken_here input reading rest (told ++ []) none end p.taken).1 ∙ append-nil told in
-      let s = settles w first h acts is on in
-      record {
-        more = s.more;
-        acts = s.acts;
-        sum = sum;
-        settled = s.settled;
-        lines_then = subst (λ l. lines_in (silo_log logic n w place.name first) (held_from h s.more).file ≡ lines_in (silo_log logic n w place.name first) h.file ++ kept_lines l) (sym lines) s.lines_then;
-      }
-
   -- ---- what was told before a fault
 
   module _ (input bytes : List ℕ) (during after : Option (List ℕ)) (told pending : List (List ℕ))
@@ -89,20 +55,20 @@ module _ (logic : Logic) (n count : ℕ) (old now : History) (before : Option (L
 
   -- ---- a fault
 
-  pub stops_memory : (from left during after : Option (List ℕ)) (told pending : List (List ℕ)) (reading : Reading) (rest : Option (List ℕ)) (failed : Bool)
+  pub stops_memory : (already : ℕ) (from left during after : Option (List ℕ)) (told pending : List (List ℕ)) (reading : Reading) (rest : Option (List ℕ)) (failed : Bool)
       → Done logic n count from left old now before during asked texts told pending → Keeps during after
-      → IfSome from (λ input. StopsLogged logic n input reading rest failed old.whole before after fault.Memory)
+      → IfSome from (λ input. StopsLogged logic n already input reading rest failed old.whole before after fault.Memory)
   unfolding tells_none
-  stops_memory None left during after told pending reading rest failed p kept = tt
-  stops_memory (Some input) None during after told pending reading rest failed p kept = absurd p.taken
-  stops_memory (Some input) (Some bytes) during after told pending reading rest failed p kept = (tells_none input bytes during after told pending p kept, refl)
+  stops_memory already None left during after told pending reading rest failed p kept = tt
+  stops_memory already (Some input) None during after told pending reading rest failed p kept = absurd p.taken
+  stops_memory already (Some input) (Some bytes) during after told pending reading rest failed p kept = (tells_none input bytes during after told pending p kept, refl)
 
-  pub stops_write : (from left during after : Option (List ℕ)) (told pending : List (List ℕ)) (reading : Reading) (rest : Option (List ℕ)) (failed : Bool)
+  pub stops_write : (already : ℕ) (from left during after : Option (List ℕ)) (told pending : List (List ℕ)) (reading : Reading) (rest : Option (List ℕ)) (failed : Bool)
       → Done logic n count from left old now before during asked texts told pending → WrittenInPart during after texts → failed ≡ true
-      → IfSome from (λ input. StopsLogged logic n input reading rest failed old.whole before after fault.Write)
-  stops_write None left during after told pending reading rest failed p part is = tt
-  stops_write (Some input) None during after told pending reading rest failed p part is = absurd p.taken
-  stops_write (Some input) (Some bytes) during after told pending reading rest failed p part is = (tells_part input bytes during after told pending p part, is)
+      → IfSome from (λ input. StopsLogged logic n already input reading rest failed old.whole before after fault.Write)
+  stops_write already None left during after told pending reading rest failed p part is = tt
+  stops_write already (Some input) None during after told pending reading rest failed p part is = absurd p.taken
+  stops_write already (Some input) (Some bytes) during after told pending reading rest failed p part is = (tells_part input bytes during after told pending p part, is)
 
   -- all was told that was read, and then reading failed
   took_all : (input bytes : List ℕ) (after : Option (List ℕ)) (told : List (List ℕ)) (reading : Reading) (rest : Option (List ℕ))
@@ -111,35 +77,35 @@ module _ (logic : Logic) (n count : ℕ) (old now : History) (before : Option (L
   took_all input bytes after told reading rest p none part =
       subst (AreTaken input rest) (append-nil told) (taken_here input (Some bytes) (told ++ []) reading rest none p.took part)
 
-  pub stops_read : (from left after : Option (List ℕ)) (told : List (List ℕ)) (reading : Reading) (rest : Option (List ℕ)) (failed : Bool)
+  pub stops_read : (already : ℕ) (from left after : Option (List ℕ)) (told : List (List ℕ)) (reading : Reading) (rest : Option (List ℕ)) (failed : Bool)
       → Done logic n count from left old now before after asked texts told [] → IsFresh reading → TakesPart left (left_of reading rest) → reading.calls.failed ≡ true
-      → IfSome from (λ input. StopsLogged logic n input reading rest failed old.whole before after fault.Read)
+      → IfSome from (λ input. StopsLogged logic n already input reading rest failed old.whole before after fault.Read)
   unfolding tells_none
-  stops_read None left after told reading rest failed p none part is = tt
-  stops_read (Some input) None after told reading rest failed p none part is = absurd p.taken
-  stops_read (Some input) (Some bytes) after told reading rest failed p none part is =
+  stops_read already None left after told reading rest failed p none part is = tt
+  stops_read already (Some input) None after told reading rest failed p none part is = absurd p.taken
+  stops_read already (Some input) (Some bytes) after told reading rest failed p none part is =
       (tells_none input bytes after after told [] p (Keeps-refl after), refl, is, took_all input bytes after told reading rest p none part)
 
-  pub stops_calls : (from left after : Option (List ℕ)) (told : List (List ℕ)) (reading : Reading) (rest : Option (List ℕ)) (failed : Bool)
+  pub stops_calls : (already : ℕ) (from left after : Option (List ℕ)) (told : List (List ℕ)) (reading : Reading) (rest : Option (List ℕ)) (failed : Bool)
       → Done logic n count from left old now before after asked texts told [] → IsFresh reading → TakesPart left (left_of reading rest) → reading.calls.made ≡ calls_limit
-      → IfSome from (λ input. StopsLogged logic n input reading rest failed old.whole before after fault.TooMuch)
+      → IfSome from (λ input. StopsLogged logic n already input reading rest failed old.whole before after fault.TooMuch)
   unfolding tells_none
-  stops_calls None left after told reading rest failed p none part is = tt
-  stops_calls (Some input) None after told reading rest failed p none part is = absurd p.taken
-  stops_calls (Some input) (Some bytes) after told reading rest failed p none part is =
+  stops_calls already None left after told reading rest failed p none part is = tt
+  stops_calls already (Some input) None after told reading rest failed p none part is = absurd p.taken
+  stops_calls already (Some input) (Some bytes) after told reading rest failed p none part is =
       (tells_none input bytes after after told [] p (Keeps-refl after), refl, inr (is, took_all input bytes after told reading rest p none part))
 
   -- there are more lines than an input may have
-  pub stops_full : (from after : Option (List ℕ)) (told : List (List ℕ)) (reading : Reading) (rest : Option (List ℕ)) (failed : Bool)
-      → Done logic n count from (left_of reading rest) old now before after asked texts told [] → count ≡ answered_limit → reading.ahead ≢ []
-      → IfSome from (λ input. StopsLogged logic n input reading rest failed old.whole before after fault.TooMuch)
+  pub stops_full : (already : ℕ) (from after : Option (List ℕ)) (told : List (List ℕ)) (reading : Reading) (rest : Option (List ℕ)) (failed : Bool)
+      → Done logic n count from (left_of reading rest) old now before after asked texts told [] → already + count ≡ answered_limit → reading.ahead ≢ []
+      → IfSome from (λ input. StopsLogged logic n already input reading rest failed old.whole before after fault.TooMuch)
   unfolding tells_none
-  stops_full None after told reading rest failed p full some = tt
-  stops_full (Some input) after told reading None failed p full some = absurd p.taken
-  stops_full (Some input) after told reading (Some bytes) failed p full some = (
+  stops_full already None after told reading rest failed p full some = tt
+  stops_full already (Some input) after told reading None failed p full some = absurd p.taken
+  stops_full already (Some input) after told reading (Some bytes) failed p full some = (
     tells_none input (reading.ahead ++ bytes) after after told [] p (Keeps-refl after),
     refl,
-    inl (ap length (sym (append-nil told)) ∙ p.counted ∙ full, lines_ahead reading bytes some),
+    inl (ap (λ (k : ℕ). already + k) (ap length (sym (append-nil told)) ∙ p.counted) ∙ full, lines_ahead reading bytes some),
   )
 
 -- ---- a batch that is committed, or not whole
@@ -152,16 +118,16 @@ module _ (logic : Logic) (n count : ℕ) (old now : History) (before : Option (L
   committed next asked_then texts_then c none nothing =
       done_committed logic n count from left old now before during asked texts told pending p after asked_then texts_then c.written none nothing
 
-  pub stops_taking : (why : LogFault) (reading : Reading) (rest : Option (List ℕ)) (failed : Bool) → StopsTaking start new during after place asked texts left rest reading failed why
-      → IfSome from (λ input. StopsLogged logic n input reading rest failed old.whole before after why)
-  stops_taking fault.Read reading rest failed s =
-      stops_read logic n count old now before [] [] from left after (told ++ pending) reading rest failed (committed s.0.next [] [] s.0.commits refl refl) s.0.none s.0.part s.1
-  stops_taking fault.TooMuch reading rest failed s =
-      stops_calls logic n count old now before [] [] from left after (told ++ pending) reading rest failed (committed s.0.next [] [] s.0.commits refl refl) s.0.none s.0.part s.1
-  stops_taking fault.Memory reading rest failed (inl c) =
-      stops_memory logic n count old now before [] [] from left after after (told ++ pending) [] reading rest failed (committed c.0 [] [] c.1 refl refl) (Keeps-refl after)
-  stops_taking fault.Memory reading rest failed (inr b) = stops_memory logic n count old now before asked texts from left during after told pending reading rest failed p b.1
-  stops_taking fault.Write reading rest failed b = stops_write logic n count old now before asked texts from left during after told pending reading rest failed p b.0.part b.1
+  pub stops_taking : (already : ℕ) (why : LogFault) (reading : Reading) (rest : Option (List ℕ)) (failed : Bool) → StopsTaking start new during after place asked texts left rest reading failed why
+      → IfSome from (λ input. StopsLogged logic n already input reading rest failed old.whole before after why)
+  stops_taking already fault.Read reading rest failed s =
+      stops_read logic n count old now before [] [] already from left after (told ++ pending) reading rest failed (committed s.0.next [] [] s.0.commits refl refl) s.0.none s.0.part s.1
+  stops_taking already fault.TooMuch reading rest failed s =
+      stops_calls logic n count old now before [] [] already from left after (told ++ pending) reading rest failed (committed s.0.next [] [] s.0.commits refl refl) s.0.none s.0.part s.1
+  stops_taking already fault.Memory reading rest failed (inl c) =
+      stops_memory logic n count old now before [] [] already from left after after (told ++ pending) [] reading rest failed (committed c.0 [] [] c.1 refl refl) (Keeps-refl after)
+  stops_taking already fault.Memory reading rest failed (inr b) = stops_memory logic n count old now before asked texts already from left during after told pending reading rest failed p b.1
+  stops_taking already fault.Write reading rest failed b = stops_write logic n count old now before asked texts already from left during after told pending reading rest failed p b.0.part b.1
 
   -- ---- and it lasts
 

@@ -1,5 +1,5 @@
 -- As far as an input was answered and its log has it.
-use Rattle.std.proofs.Common.{◌≡◌, ◌≢◌, ◌∙◌, ℕ, ◌+◌, Bool, IfSome, List, [], ◌∷◌, ◌++◌, Option, Some, append_assoc, append-nil, inl, inr, refl, sym, subst, ap, ⊎_elim}
+use Rattle.std.proofs.Common.{◌≡◌, ◌≢◌, ◌∙◌, ℕ, ◌+◌, Bool, IfSome, List, [], ◌∷◌, ◌++◌, length, Option, Some, append_assoc, append-nil, inl, inr, refl, sym, subst, ap, ⊎_elim}
 use Rattle.std.specs.Prelude.{◌⊎◌}
 use Rattle.std.specs.Io.KnownBytes.{IsAtEnd, Keeps}
 use Rattle.std.proofs.KnownBytes.{Keeps-refl}
@@ -18,7 +18,7 @@ use Rattle.log_host.proofs.Moments.{held_on}
 use Rattle.log_host.specs.declared.place.LogPlace.{LogPlace}
 use Rattle.log_answer.specs.Answers.{HasLeft, SameTables, kept_line, kept_lines, led, silo_log}
 use Rattle.log_host.specs.Lasting.{LastsFrom, lines_in}
-use Rattle.log_answer.specs.Runs.{AnswersLogged, GoesFrom, GoesOn, KeepsLines, StopsLogged}
+use Rattle.log_answer.specs.Runs.{GoesOn, RunsOn, StopsLogged}
 use Rattle.log_answer.specs.Starts.{IsOwn, MarksTell, OwnsFrom}
 use Rattle.log_answer.specs.declared.running.LogFault.{LogFault}
 use Rattle.log_answer.specs.declared.running.LogFault.TheVariants as fault
@@ -27,8 +27,9 @@ use Rattle.log_answer.specs.inside.Gathering.{Gathers, GathersOn}
 use Rattle.log_answer.proofs.Done.{Done, done_gathered, done_left, done_none, kept_heard, led_by_heard, settles_last, settles_none}
 use Rattle.log_answer.proofs.Led.{led_append}
 use Rattle.log_answer.proofs.Left.{gathers_on, led_alike, left_is_all}
+use Rattle.log_answer.proofs.Paused.{answers_part}
 use Rattle.log_answer.proofs.Own.{own_part, own_settled, same_more, tells_same}
-use Rattle.log_answer.proofs.Ends.{asking, committed, done_all, keeps_all, lasts_taking, lasts_then, settles_then, stops_full, stops_memory, stops_taking}
+use Rattle.log_answer.proofs.Ends.{asking, committed, lasts_taking, lasts_then, settles_then, stops_full, stops_memory, stops_taking}
 
 -- the log has these lines, if it is settled where the silo was
 abbrev pub Keeping : Logic → ℕ → LogPlace → Whole → List (List ℕ) → Option (List Act) → Option (List Act) → ℕ → Type 0
@@ -168,20 +169,9 @@ module _ (logic : Logic) (n : ℕ) where
           (committed logic n count old now before asked texts from left during after p.told p.pending mid new place p.done next [] [] c refl refl)
           (left_of reading rest) kept
 
-      pub going_ends : (total : ℕ) → total ≡ count → IsFresh reading → IsAtEnd rest → IfSome from (λ input. AnswersLogged logic n input total old now rest before after)
-      going_ends total same none end = done_all logic n count old now before [] [] total from reading rest after (p.told ++ p.pending) same none end ended
-
-      pub going_keeps : IsFresh reading → IsAtEnd rest → IfSome from (λ input. (w : Whole) (first : ℕ) (h : Held) (acts : List Act) → start ≡ Some acts
-          → GoesOn logic n w first begun h old.whole → KeepsLines (silo_log logic n w begun.name first) h (lines_of input) acts new)
-      going_keeps none end =
-          keeps_all logic n count old now before [] [] from reading rest after (p.told ++ p.pending) begun next.sum start new none end ended
-          (λ w first h acts is on.
-          settles_then logic n count old now before asked texts from left during after p.told p.pending mid new place p.done w first begun h acts p.name on
-          (p.keeps w first h acts is on) next c)
-
-      pub going_full : (failed : Bool) → count ≡ answered_limit → reading.ahead ≢ []
-          → IfSome from (λ input. StopsLogged logic n input reading rest failed old.whole before after fault.TooMuch)
-      going_full failed full some = stops_full logic n count old now before [] [] from after (p.told ++ p.pending) reading rest failed ended full some
+      pub going_full : (already : ℕ) (failed : Bool) → already + count ≡ answered_limit → reading.ahead ≢ []
+          → IfSome from (λ input. StopsLogged logic n already input reading rest failed old.whole before after fault.TooMuch)
+      going_full already failed full some = stops_full logic n count old now before [] [] already from after (p.told ++ p.pending) reading rest failed ended full some
 
     pub lasts_ended : (after : Option (List ℕ)) (next : LogPlace) (new : Option (List Act)) → Commits mid new during after place asked texts next
         → (w : Whole) (first : ℕ) (h : Held) (acts : List Act) → start ≡ Some acts → GoesOn logic n w first begun h old.whole
@@ -218,11 +208,11 @@ module _ (logic : Logic) (n : ℕ) where
 
     -- ---- a fault
 
-    pub going_stops : (why : LogFault) (after rest : Option (List ℕ)) (new : Option (List Act)) (reading : Reading) (failed : Bool)
+    pub going_stops : (already : ℕ) (why : LogFault) (after rest : Option (List ℕ)) (new : Option (List Act)) (reading : Reading) (failed : Bool)
         → StopsTaking mid new during after place asked texts left rest reading failed why
-        → IfSome from (λ input. StopsLogged logic n input reading rest failed old.whole before after why)
-    going_stops why after rest new reading failed s =
-        stops_taking logic n count old now before asked texts from left during after p.told p.pending mid new place p.done why reading rest failed s
+        → IfSome from (λ input. StopsLogged logic n already input reading rest failed old.whole before after why)
+    going_stops already why after rest new reading failed s =
+        stops_taking logic n count old now before asked texts from left during after p.told p.pending mid new place p.done already why reading rest failed s
 
     pub lasts_stopped : (why : LogFault) (after rest : Option (List ℕ)) (new : Option (List Act)) (reading : Reading) (failed : Bool)
         → StopsTaking mid new during after place asked texts left rest reading failed why
@@ -236,10 +226,10 @@ module _ (logic : Logic) (n : ℕ) where
         → LastsFrom (silo_log logic n w begun.name first) h acts mid
     lasts_now w first h acts is on = settles_last (silo_log logic n w begun.name first) h (kept_lines p.told) acts mid place.sum (p.keeps w first h acts is on)
 
-    pub going_memory : (reading : Reading) (rest : Option (List ℕ)) (failed : Bool)
-        → IfSome from (λ input. StopsLogged logic n input reading rest failed old.whole before during fault.Memory)
-    going_memory reading rest failed =
-        stops_memory logic n count old now before asked texts from left during during p.told p.pending reading rest failed p.done (Keeps-refl during)
+    pub going_memory : (already : ℕ) (reading : Reading) (rest : Option (List ℕ)) (failed : Bool)
+        → IfSome from (λ input. StopsLogged logic n already input reading rest failed old.whole before during fault.Memory)
+    going_memory already reading rest failed =
+        stops_memory logic n count old now before asked texts already from left during during p.told p.pending reading rest failed p.done (Keeps-refl during)
 
   module _ (count : ℕ) (from left : Option (List ℕ)) (old now : History) (before during : Option (List ℕ)) (asked texts : List ℕ) (begun place : LogPlace)
       (start mid : Option (List Act)) (p : Going logic n count from left old now before during asked texts begun place start mid) where
@@ -263,22 +253,28 @@ module _ (logic : Logic) (n : ℕ) where
         owns_broken count from left old now before during asked texts begun place start mid p after new b.0
 
     -- behind the last batch the silo is where the lines of the log lead
-    pub going_goes : (keeps : Bool) (here : History) → HasLeft keeps now here → (after : Option (List ℕ)) (next : LogPlace) (new : Option (List Act))
-        → Commits mid new during after place asked texts next
-        → (w : Whole) (first : ℕ) (h : Held) (acts : List Act) → start ≡ Some acts → GoesOn logic n w first begun h old.whole
-        → GoesFrom logic n w begun.name first h here.whole acts new
+    pub going_runs : (keeps : Bool) (here : History) → HasLeft keeps now here → (after : Option (List ℕ)) (next : LogPlace) (new : Option (List Act))
+        → Commits mid new during after place asked texts next → (ends : Option (List ℕ)) → Keeps left ends
+        → RunsOn keeps logic n begun next from ends count old here before after start new
     unfolding going_committed
-    going_goes keeps here has after next new c w first h acts is on =
+    going_runs keeps here has after next new c ends kept =
         let g = going_committed count from left old now before during asked texts begun place start mid p after [] [] next new c refl refl in
-        let s = g.keeps w first h acts is on in
-        let log = silo_log logic n w begun.name first in
+        let d = done_left logic n count from left old now before after [] [] g.told [] g.done ends kept in
         record {
-          more = s.more;
-          acts = s.acts;
-          always = s.always;
-          sum = next.sum;
-          settled = s.settled;
-          leads = left_is_all keeps now here has ∙ ap untold (g.done.whole ∙ ap (led logic n old.whole) (append-nil g.told) ∙ sym (led_by_heard logic n old.whole (kept_lines g.told) g.told (kept_heard logic n g.told)))
-              ∙ led_alike logic n old.whole (led logic n w (lines_in log h.file)) (kept_lines g.told) on.leads
-              ∙ ap untold (sym (led_append logic n w (lines_in log h.file) (kept_lines g.told)) ∙ ap (led logic n w) (sym s.lines_then));
+          lines = g.told;
+          counted = sym d.counted ∙ ap length (append-nil g.told);
+          name = g.name;
+          answered = answers_part keeps logic n count old now here before after [] [] g.told has from ends d;
+          goes = λ w first h acts is on.
+              let s = g.keeps w first h acts is on in
+              record {
+                more = s.more;
+                acts = s.acts;
+                always = s.always;
+                settled = s.settled;
+                lines_then = s.lines_then;
+                leads = left_is_all keeps now here has ∙ ap untold (g.done.whole ∙ ap (led logic n old.whole) (append-nil g.told) ∙ sym (led_by_heard logic n old.whole (kept_lines g.told) g.told (kept_heard logic n g.told)))
+                    ∙ led_alike logic n old.whole (led logic n w (lines_in (silo_log logic n w begun.name first) h.file)) (kept_lines g.told) on.leads
+                    ∙ ap untold (sym (led_append logic n w (lines_in (silo_log logic n w begun.name first) h.file) (kept_lines g.told)) ∙ ap (led logic n w) (sym s.lines_then));
+              };
         }

@@ -1,5 +1,5 @@
 -- A silo that let its history go is led as if it had kept all, and tells the same.
-use Rattle.std.proofs.Common.{◌≡◌, ◌∙◌, ℕ, Bool, true, false, List, [], ◌∷◌, ◌++◌, IfSome, OnOk, Option, Some, None, Result, Ok, Err, append_assoc, append-nil, refl, ap, sym, subst, inl, inr}
+use Rattle.std.proofs.Common.{◌≡◌, ◌∙◌, ℕ, Bool, true, false, List, [], ◌∷◌, ◌++◌, OnOk, Option, Some, Result, Ok, Err, append_assoc, append-nil, length, refl, ap, sym, subst, inl, inr, ⊎_elim}
 use Rattle.silo_event.specs.declared.reply.Reply.{Reply}
 use Rattle.silo_event.specs.declared.step.Step.{Step}
 use Rattle.grain_logic.specs.Logic.{Logic}
@@ -7,7 +7,7 @@ use Rattle.silo_model.specs.Opening.{Setup}
 use Rattle.silo_model.specs.Segments.{told_before, untold}
 use Rattle.silo_model.specs.Whole.{Whole, shown_to}
 use Rattle.silo_core.specs.History.{History}
-use Rattle.std.specs.Io.KnownBytes.{Appends}
+use Rattle.std.specs.Io.KnownBytes.{Appends, IsAtEnd}
 use Rattle.line_protocol.specs.Lines.{lines_of}
 use Rattle.line_protocol.specs.LineRuns.{WrittenInPart}
 use Rattle.line_protocol.specs.LineTexts.{joined}
@@ -21,9 +21,9 @@ use Rattle.line_answer.specs.Texts.{Heard, all_steps, asks_by, asks_of, line_tex
 use Rattle.line_answer.proofs.Asked.{run_all}
 use Rattle.line_answer.proofs.Dropped.{leaves_dropped, leaves_self, text_told}
 use Rattle.log_text.specs.Batches.{line_text as line_bytes}
-use Rattle.log_answer.specs.Answers.{HasLeft, LeadsLines, LeadsOn, SameTables, heard_of, led, told_for}
+use Rattle.log_answer.specs.Answers.{HasLeft, IsLed, LeadsLines, LeadsOn, SameTables, heard_of, led, told_for}
 use Rattle.log_answer.specs.Laws.{LeftIsAll, TellsAsEver}
-use Rattle.log_answer.specs.Runs.{AnswersLogged, LogsOn, StopsLogged, TellsFirst}
+use Rattle.log_answer.specs.Runs.{AnswersLogged, AnswersPart, AreLines, StopsLogged, TellsFirst}
 use Rattle.log_answer.specs.inside.Gathering.{Gathers, GathersOn}
 use Rattle.log_answer.specs.declared.running.LogFault.{LogFault}
 use Rattle.log_answer.specs.declared.running.LogFault.TheVariants as fault
@@ -85,7 +85,7 @@ left_is_all keeps all new p = leaves_all keeps all new p.leaves
 same_tables : (setup : Setup) → SameTables setup setup
 same_tables setup = record { tenants = refl; age = refl; ages = refl }
 
-tables_on : (a b c d : Setup) → SameTables a b → c ≡ b → SameTables c d → SameTables a d
+pub tables_on : (a b c d : Setup) → SameTables a b → c ≡ b → SameTables c d → SameTables a d
 tables_on a b c d p is q = record {
   tenants = q.tenants ∙ ap (λ (s : Setup). s.tenants) is ∙ p.tenants;
   age = q.age ∙ ap (λ (s : Setup). s.age) is ∙ p.age;
@@ -95,7 +95,7 @@ tables_on a b c d p is q = record {
 pub left_self : (keeps : Bool) (h : History) → HasLeft keeps h h
 left_self keeps h = record { leaves = leaves_self keeps h; tables = same_tables h.setup }
 
-gone_tables : (keeps : Bool) (old new : History) → MayDrop keeps old new → SameTables old.setup new.setup
+pub gone_tables : (keeps : Bool) (old new : History) → MayDrop keeps old new → SameTables old.setup new.setup
 gone_tables true old new same = subst (λ (h : History). SameTables old.setup h.setup) (sym same) (same_tables old.setup)
 gone_tables false old new (inl same) = subst (λ (h : History). SameTables old.setup h.setup) (sym same) (same_tables old.setup)
 gone_tables false old new (inr r) = record {
@@ -209,11 +209,12 @@ module _ (logic : Logic) (n : ℕ) where
 
 -- ---- the end of an input
 
-pub logs_on : (keeps : Bool) (logic : Logic) (n count : ℕ) (old all new : History) (left before after : Option (List ℕ)) (from : Option (List ℕ))
-    → HasLeft keeps all new → IfSome from (λ input. AnswersLogged logic n input count old all left before after)
-    → IfSome from (λ input. LogsOn keeps logic n input count old new left before after)
-logs_on keeps logic n count old all new left before after None p answers = tt
-logs_on keeps logic n count old all new left before after (Some input) p answers = record { all = all; has = p; answers = answers }
+pub part_ends : (keeps : Bool) (logic : Logic) (n : ℕ) (input : List ℕ) (lines : List (List ℕ)) (old new : History) (rest before after : Option (List ℕ))
+    (part : AnswersPart keeps logic n input lines old new rest before after) → part.rest ≡ [] → lines_of input ≡ lines
+part_ends keeps logic n input lines old new rest before after part none =
+    let whole : input ≡ part.taken ++ [] = part.parts ∙ ap (λ (k : List ℕ). part.taken ++ k) none in
+    ⊎_elim (λ (a : AreLines part.taken lines). ap lines_of whole ∙ a.all [] ∙ append-nil lines)
+    (λ last. ap lines_of (whole ∙ append-nil part.taken) ∙ sym last.0) part.are
 
 -- ---- and so it is of all that would be, from where all would be
 
@@ -224,26 +225,25 @@ module _ (logic : Logic) (n : ℕ) where
       subst (IsReached logic setup) (run_all (whole_stepper logic) n w asks) (run_reached logic setup (all_steps (whole_stepper logic) n w asks) w reached)
 
   module _ (keeps here : Bool) (setup : Setup) (all left new : History) (reached : IsReached logic setup all.whole) (is : here ≡ keeps) (p : HasLeft keeps all left) where
-    pub logged_on : (input : List ℕ) (count : ℕ) (rest before after : Option (List ℕ)) → LogsOn here logic n input count left new rest before after
-        → (more : History) × AnswersLogged logic n input count all more rest before after
-    logged_on input count rest before after on =
-        let lines = lines_of input in
-        let a = on.answers in
-        let leads : LeadsLines logic n left lines on.all (told_for logic n left.whole lines) =
-        record { setup = a.leads.setup; whole = a.leads.whole; idle = a.leads.idle; text_is = refl } in
-        let l = lines_on logic n keeps all left on.all lines (told_for logic n left.whole lines) p.leaves leads in (
-          led_on keeps all left on.all p.leaves,
+    pub logged_on : (input : List ℕ) (lines : List (List ℕ)) (rest before after : Option (List ℕ)) → AnswersPart here logic n input lines left new rest before after → IsAtEnd rest
+        → (more : History) × AnswersLogged logic n input (length lines) all more rest before after
+    logged_on input lines rest before after part end =
+        let none : part.rest ≡ [] = subst IsAtEnd part.left_is end in
+        let same = part_ends here logic n input lines left new rest before after part none in
+        let leads = leads_on logic n keeps all left new p lines part.text (subst (λ (b : Bool). LeadsOn b logic n left lines new part.text) is part.leads) in
+        let l = leads.1 in (
+          leads.0,
           record {
-            read = a.read;
-            counted = a.counted;
-            leads = record {
+            read = part.left_is ∙ ap Some none;
+            counted = ap length (sym same);
+            leads = subst (λ (ls : List (List ℕ)). IsLed logic n all ls leads.0) (sym same) (record {
               setup = l.setup;
               whole = l.whole;
               idle = l.idle;
               own = λ tenant.
                   ap (shown_to tenant) l.whole ∙ tenants_apart logic setup reached.0 all.whole n tenant (asks_of (heard_of lines)) reached.1;
-            };
-            written = subst (Appends before after) l.text_is a.written;
+            });
+            written = subst (Appends before after) (l.text_is ∙ ap (told_for logic n all.whole) (sym same)) part.written;
           },
         )
 
@@ -260,10 +260,10 @@ module _ (logic : Logic) (n : ℕ) where
           (told_alike logic n (led logic n w p.told) (led logic n x p.told) p.batch (led_alike logic n w x p.told same)) p.part;
     }
 
-    pub stops_alike : (input : List ℕ) (reading : Reading) (left : Option (List ℕ)) (failed : Bool) (before after : Option (List ℕ)) (why : LogFault)
-        → StopsLogged logic n input reading left failed w before after why → StopsLogged logic n input reading left failed x before after why
+    pub stops_alike : (already : ℕ) (input : List ℕ) (reading : Reading) (left : Option (List ℕ)) (failed : Bool) (before after : Option (List ℕ)) (why : LogFault)
+        → StopsLogged logic n already input reading left failed w before after why → StopsLogged logic n already input reading left failed x before after why
     unfolding tells_alike
-    stops_alike input reading left failed before after fault.Read s = (tells_alike (lines_of input) before after s.0, s.1, s.2, s.3)
-    stops_alike input reading left failed before after fault.TooMuch s = (tells_alike (lines_of input) before after s.0, s.1, s.2)
-    stops_alike input reading left failed before after fault.Memory s = (tells_alike (lines_of input) before after s.0, s.1)
-    stops_alike input reading left failed before after fault.Write s = (tells_alike (lines_of input) before after s.0, s.1)
+    stops_alike already input reading left failed before after fault.Read s = (tells_alike (lines_of input) before after s.0, s.1, s.2, s.3)
+    stops_alike already input reading left failed before after fault.TooMuch s = (tells_alike (lines_of input) before after s.0, s.1, s.2)
+    stops_alike already input reading left failed before after fault.Memory s = (tells_alike (lines_of input) before after s.0, s.1)
+    stops_alike already input reading left failed before after fault.Write s = (tells_alike (lines_of input) before after s.0, s.1)

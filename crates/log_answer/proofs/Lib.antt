@@ -6,6 +6,8 @@ pub mod Ends
 pub mod Going
 pub mod Kept
 pub mod Passed
+mod Paused
+pub mod Parts
 pub mod Passing
 pub mod Lives
 pub mod Own

@@ -63,7 +63,7 @@ fn first_bytes(bytes: &[u8], limit: usize) -> &[u8]
 }
 
 /// What a log has of a line.
-fn kept_part(line: &[u8]) -> &[u8]
+pub(crate) fn kept_part(line: &[u8]) -> &[u8]
     ensures { result.now ≡ kept_line line.now }
 {
     first_bytes(line, LINE_LIMIT + 1)

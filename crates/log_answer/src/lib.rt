@@ -14,5 +14,5 @@ mod starting;
 mod well;
 
 pub use log_host::LogPlace;
-pub use running::{LogFault, answer_logged};
+pub use running::{LogFault, Ran, RunFrom, answer_logged};
 pub use starting::{Again, AgainFault, answer_again};

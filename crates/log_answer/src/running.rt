@@ -1,20 +1,20 @@
 //! Every line of an input, answered, and in a log before any reply to it is written.
 
-ghost use Rattle.std.specs.Prelude.{◌≡◌, ◌≢◌, ◌⊎◌, ◌≤◌, [], false, true, List, ℕ, Ok, Option, Some, IfErr, IfOk, IfSome, OnErr, OnOk};
+ghost use Rattle.std.specs.Prelude.{◌≡◌, ◌≢◌, ◌⊎◌, ◌≤◌, ◌<◌, ◌+◌, [], false, true, List, ℕ, Ok, Option, Some};
+ghost use Rattle.std.specs.Prelude.{IfErr, IfOk, IfSome, OnErr, OnOk};
 ghost use Rattle.std.specs.Io.KnownBytes.{IsAtEnd, Keeps};
 ghost use Rattle.silo_model.specs.Whole.{Whole};
-ghost use Rattle.line_protocol.specs.Lines.{lines_of};
 ghost use Rattle.line_protocol.specs.Reading.{TakesCut, left_of};
 ghost use Rattle.line_answer.specs.Limits.{answered_limit};
 ghost use Rattle.log_host.specs.Acts.{Act, Held};
 ghost use Rattle.log_host.specs.Lasting.{LastsFrom};
 ghost use Rattle.log_answer.specs.Answers.{SameTables, silo_log};
-ghost use Rattle.log_answer.specs.Runs.{GoesFrom, GoesOn, KeepsLines, LogsOn, StopsLogged};
+ghost use Rattle.log_answer.specs.Runs.{GoesOn, RunsOn, StopsLogged};
 ghost use Rattle.log_answer.specs.Starts.{MarksTell, OwnsFrom};
 ghost use Rattle.log_answer.specs.inside.Commits.{Commits, StopsTaking, Waits};
 
 use crate::answering::LineTools;
-use crate::batch::{Batch, answer_more, commit_batch};
+use crate::batch::{Batch, answer_more, commit_batch, kept_part};
 use grain_logic::GrainLogic;
 use grain_storage::GrainStorage;
 use line_answer::{ANSWERED_LIMIT, AnsweringSilo, Input, LineFault, Output};
@@ -132,8 +132,26 @@ fn take_next<R: Read, W: Write, H: LogHost>(
     Ok(more)
 }
 
+/// Where the lines of an input go on to be answered: the place in the log, how many lines the input had before, at most 1,073,741,824, and
+/// how many bytes of lines, each as the log has it and with its LF, the log may get before the run pauses.
+#[derive(Clone, Copy, Debug, PartialEq, Eq)]
+pub struct RunFrom {
+    pub place: LogPlace,
+    pub count: u64,
+    pub room: u64,
+}
+
+/// How far lines were answered: the place after them, how many lines the input had by then, and whether the run paused before it saw the
+/// end of the input.
+#[derive(Clone, Copy, Debug, PartialEq, Eq)]
+pub struct Ran {
+    pub place: LogPlace,
+    pub count: u64,
+    pub paused: bool,
+}
+
 /// Answers each line before it takes the next, followed by at most `most` deliveries, and has the line in the log, on
-/// the disk, before any reply to it is written. Returns the number of lines, at most 1,073,741,824.
+/// the disk, before any reply to it is written. It pauses once the log got more bytes of lines than there was room for.
 ///
 /// The lines that one read brought are one batch: all of them are answered, then they are written to the log, and then
 /// their replies are written, before a read that may wait. A batch with more than 1,048,576 bytes of lines, or of
@@ -151,33 +169,31 @@ pub fn answer_logged<R: Read, W: Write, H: LogHost, S: GrainStorage, L: GrainLog
     input: &mut Input<R>,
     output: &mut Output<W>,
     log: &mut H,
-    place: LogPlace,
+    from: RunFrom,
     silo: &mut AnsweringSilo<S, L>,
     most: u64,
-) -> Result<u64, LogFault>
-    requires { silo.old.stopped ≡ false }
+) -> Result<Ran, LogFault>
+    requires ready { silo.old.stopped ≡ false }
+    requires bound { from.count ≤ answered_limit }
 
     // At each moment of the call, however it ends: whatever a crash leaves of the log, what was told is the beginning of what
     // that log answers.
     ensures lasts { (w : Whole) (first : ℕ) (h : Held) (acts : List Act) → H.acts log.old ≡ Some acts
-        → GoesOn L.logic most w first place h silo.old.history.whole
-        → LastsFrom (silo_log L.logic most w place.name first) h acts (H.acts log.new) }
-    ensures answered { IfOk result (λ n. IfSome (left_of input.old.lines (R.remaining input.old.reader)) (λ bytes.
-        LogsOn silo.old.keeps L.logic most bytes n silo.old.history silo.new.history (R.remaining input.new.reader)
-        (W.contents output.old.writer) (W.contents output.new.writer))) }
+        → GoesOn L.logic most w first from.place h silo.old.history.whole
+        → LastsFrom (silo_log L.logic most w from.place.name first) h acts (H.acts log.new) }
 
-    // The log was given all lines.
-    ensures kept { OnOk result (IfSome (left_of input.old.lines (R.remaining input.old.reader)) (λ bytes.
-        (w : Whole) (first : ℕ) (h : Held) (acts : List Act) → H.acts log.old ≡ Some acts
-        → GoesOn L.logic most w first place h silo.old.history.whole
-        → KeepsLines (silo_log L.logic most w place.name first) h (lines_of bytes) acts (H.acts log.new))) }
+    // It came to the place behind its last batch, over these lines. The silo is where the log's lines lead, whether the input is known or
+    // not.
+    ensures ran { IfOk result (λ ran. (taken : ℕ) × (ran.count ≡ from.count + taken)
+        × RunsOn silo.old.keeps L.logic most from.place ran.place (left_of input.old.lines (R.remaining input.old.reader))
+        (left_of input.new.lines (R.remaining input.new.reader)) taken silo.old.history silo.new.history
+        (W.contents output.old.writer) (W.contents output.new.writer) (H.acts log.old) (H.acts log.new)) }
 
-    // In the end it goes on behind its last batch, and the silo is where its lines lead, whether the input is known or not.
-    ensures goes { OnOk result ((w : Whole) (first : ℕ) (h : Held) (acts : List Act) → H.acts log.old ≡ Some acts
-        → GoesOn L.logic most w first place h silo.old.history.whole
-        → GoesFrom L.logic most w place.name first h silo.new.history.whole acts (H.acts log.new)) }
+    // If it doesn't pause, that is all of the input.
+    ensures ended { IfOk result (λ ran. ran.paused ≡ false
+        → (input.new.lines.ahead ≡ []) × IsAtEnd (R.remaining input.new.reader)) }
     ensures stops { IfErr result (λ why. IfSome (left_of input.old.lines (R.remaining input.old.reader)) (λ bytes.
-        StopsLogged L.logic most bytes input.new.lines (R.remaining input.new.reader) (H.failed log.new) silo.old.history.whole
+        StopsLogged L.logic most from.count bytes input.new.lines (R.remaining input.new.reader) (H.failed log.new) silo.old.history.whole
         (W.contents output.old.writer) (W.contents output.new.writer) why)) }
     ensures ready { OnOk result (silo.new.stopped ≡ false) }
     ensures keeps { silo.new.keeps ≡ silo.old.keeps }
@@ -186,14 +202,17 @@ pub fn answer_logged<R: Read, W: Write, H: LogHost, S: GrainStorage, L: GrainLog
     // In every outcome: if the marks of the log say the sums of what was told for its lines, so do those of what it has then. So a start
     // takes it, wherever a crash cut it (`own_taken`).
     ensures own { (w : Whole) (first sum : ℕ) (h : Held) (acts : List Act) → H.acts log.old ≡ Some acts
-        → GoesOn L.logic most w first place h silo.old.history.whole
-        → MarksTell L.logic most w place.name first sum h.file place.told
-        → OwnsFrom L.logic most w place.name first sum h acts (H.acts log.new) }
+        → GoesOn L.logic most w first from.place h silo.old.history.whole
+        → MarksTell L.logic most w from.place.name first sum h.file from.place.told
+        → OwnsFrom L.logic most w from.place.name first sum h acts (H.acts log.new) }
 
     // It is written behind what the log had, and nothing of that is changed.
     ensures begun { H.begun log.new ≡ H.begun log.old }
     ensures past { H.past log.new ≡ H.past log.old }
-    ensures bound { IfOk result (λ n. n ≤ answered_limit) }
+
+    // It pauses behind a line, and not before.
+    ensures on { IfOk result (λ ran. ran.paused ≡ true → from.count < ran.count) }
+    ensures bound { IfOk result (λ ran. ran.count ≤ answered_limit) }
     ensures unfailed { OnOk result (H.failed log.new ≡ H.failed log.old) }
     ensures output { OnOk result (output.new.calls.failed ≡ output.old.calls.failed) }
 
@@ -204,23 +223,37 @@ pub fn answer_logged<R: Read, W: Write, H: LogHost, S: GrainStorage, L: GrainLog
     let _ = silo.journal();
     let mut tools = LineTools::new(alloc);
     let mut batch = Batch::new(alloc);
-    let mut place = place;
-    for count in 0..ANSWERED_LIMIT {
-        if !take_next(input, output, log, &mut place, &mut batch)? {
-            return Ok(count);
+    let mut place = from.place;
+    let mut grown: u64 = 0;
+    for count in from.count..ANSWERED_LIMIT {
+        if grown > from.room && count > from.count {
+            let next = commit_batch(log, output, place, &mut batch)?;
+            return Ok(Ran {
+                place: next,
+                count,
+                paused: true,
+            });
         }
-        answer_more(
-            alloc,
-            &mut tools,
-            silo,
-            most,
-            input.lines.line(),
-            &mut batch,
-        )?;
+        if !take_next(input, output, log, &mut place, &mut batch)? {
+            return Ok(Ran {
+                place,
+                count,
+                paused: false,
+            });
+        }
+        let line = input.lines.line();
+        grown = grown
+            .saturating_add(kept_part(line).len() as u64)
+            .saturating_add(1);
+        answer_more(alloc, &mut tools, silo, most, line, &mut batch)?;
     }
-    commit_batch(log, output, place, &mut batch)?;
+    let last = commit_batch(log, output, place, &mut batch)?;
     if input.lines.fill(&mut input.reader)? {
         return Err(LogFault::TooMuch);
     }
-    Ok(ANSWERED_LIMIT)
+    Ok(Ran {
+        place: last,
+        count: ANSWERED_LIMIT,
+        paused: false,
+    })
 }

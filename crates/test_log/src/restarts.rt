@@ -3,7 +3,9 @@
 use grain_kinds::Kinds;
 use grain_storage::{FusedStorage, MemoryStorage};
 use line_answer::{AnsweringSilo, Input, Output};
-use log_answer::{Again, AgainFault, LogFault, LogPlace, answer_again, answer_logged};
+use log_answer::{
+    Again, AgainFault, LogFault, LogPlace, Ran, RunFrom, answer_again, answer_logged,
+};
 use log_host::{Did, Fuse, MemoryLog};
 use std::alloc::Global;
 use std::test::Fail;
@@ -20,6 +22,9 @@ const FIRST: LogPlace = LogPlace {
 
 /// Bytes that a read brings at most: one line, or two.
 const READ: usize = 200;
+
+/// More bytes than a log gets here.
+const ROOM: u64 = 1_000_000_000;
 
 static LINES: &str =
     r#"{"op":"call","from":"red/c1","id":1,"grain":"counter/red:a","method":"add","args":{"by":3}}
@@ -104,12 +109,17 @@ fn logged(
     place: LogPlace,
     lines: &str,
     output: &mut Output<Vec<u8>>,
-) -> Result<Result<u64, LogFault>, Fail> {
+) -> Result<Result<Ran, LogFault>, Fail> {
     if silo.is_stopped() {
         return Err(Fail::from("the silo has stopped"));
     }
     let mut input = Input::with_capacity(alloc, lines.as_bytes(), READ)?;
-    Ok(answer_logged(alloc, &mut input, output, log, place, silo, 10))
+    let from = RunFrom {
+        place,
+        count: 0,
+        room: ROOM,
+    };
+    Ok(answer_logged(alloc, &mut input, output, log, from, silo, 10))
 }
 
 /// A run over what is left of a log: it starts, and answers the lines, and the fuse ends it.
@@ -196,7 +206,11 @@ fn told_behind_long(alloc: Global, keeps: bool, lines: &[u8]) -> Result<(Vec<u8>
         &mut input,
         &mut output,
         &mut log,
-        FIRST,
+        RunFrom {
+            place: FIRST,
+            count: 0,
+            room: ROOM,
+        },
         &mut silo,
         10,
     );
@@ -265,4 +279,44 @@ fn a_log_that_tells_otherwise_is_refused(rt: HostRuntime) -> Result<(), Fail> {
         "another sum",
         matches!(start?, Err(AgainFault::Otherwise(1))),
     )
+}
+
+/// How many lines are answered before the run pauses, if the log has room for that many bytes, and whether it pauses.
+fn paused(alloc: Global, room: u64) -> Result<(u64, bool), Fail> {
+    let mut silo = new_silo(alloc)?;
+    if silo.is_stopped() {
+        return Err(Fail::from("the silo has stopped"));
+    }
+    let mut log = MemoryLog::new(alloc, None, NONE);
+    let written: Vec<u8> = Vec::new(alloc);
+    let mut output = Output::new(written);
+    let mut input = Input::with_capacity(alloc, LINES.as_bytes(), READ)?;
+    let from = RunFrom {
+        place: FIRST,
+        count: 0,
+        room,
+    };
+    let end = answer_logged(
+        alloc,
+        &mut input,
+        &mut output,
+        &mut log,
+        from,
+        &mut silo,
+        10,
+    );
+    drop(silo);
+    drop(log);
+    match end {
+        Ok(ran) => Ok((ran.count, ran.paused)),
+        Err(why) => Err(Fail::new(format_args!("{why:?}"))),
+    }
+}
+
+#[test]
+fn a_run_pauses_where_the_log_has_no_room(rt: HostRuntime) -> Result<(), Fail> {
+    let alloc = rt.alloc();
+    holds("behind the first line", paused(alloc, 0)? == (1, true))?;
+    holds("behind the second", paused(alloc, 100)? == (2, true))?;
+    holds("at the end", paused(alloc, 1_000)? == (6, false))
 }

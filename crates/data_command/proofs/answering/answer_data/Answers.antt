@@ -4,7 +4,8 @@ use Rattle.std.proofs.lemmas.Result.{IfErr-weaker}
 use Rattle.std.specs.Prelude.{Vec, option_map}
 use Rattle.std.specs.declared.alloc.Global.{Global}
 use Rattle.command_parts.specs.Setups.{started, starting, version_of}
-use Rattle.data_command.specs.Data.{AnswersData, DataFailsBy, DataLasts, HasInput, log_view, since}
+use Rattle.data_command.specs.Data.{AnswersData, DataFailsBy, log_view, since}
+use Rattle.data_command.specs.Passing.{RunHas, RunLasts}
 use Rattle.data_command.specs.Words.{head_words}
 use Rattle.data_command.specs.inside.Ready.{HasFound}
 use Rattle.data_command.proofs.Beginnings.{not_opened, on_ok_so}
@@ -39,6 +40,17 @@ answer_on-done-requires-clause-ready g c =
     let f : HasFound old now (option_map (λ (bytes : Vec ℕ Global). bytes.items) c.in-Ok.found.log) (option_map (λ (bytes : Vec ℕ Global). bytes.items) c.in-Ok.found.point) = record { left = c.open_folder.ensures.left; acts = c.open_folder.ensures.acts; log_is = c.in-Ok.ensures.log; point_is = c.in-Ok.ensures.point } in
     let ready = c.in-Ok-ready_silo.ensures.ready old f in
     ready.runs
+
+pub answer_on-done-requires-clause-drops : goal.answer_on-done-requires-clause-drops
+answer_on-done-requires-clause-drops g c =
+    let version = version_of g.L.GrainLogic.logic c.args.opening.start.kinds in
+    let start = starting version c.args.opening.start.tenants c.args.opening.start.age c.args.opening.start.ages in
+    let sends = c.args.opening.sends in
+    let old = log_view g.F.LogHost.begun g.F.LogHost.acts g.F.LogHost.past g.F.LogHost.failed c.args.files.now in
+    let now = log_view g.F.LogHost.begun g.F.LogHost.acts g.F.LogHost.past g.F.LogHost.failed c.open_folder.new.files in
+    let f : HasFound old now (option_map (λ (bytes : Vec ℕ Global). bytes.items) c.in-Ok.found.log) (option_map (λ (bytes : Vec ℕ Global). bytes.items) c.in-Ok.found.point) = record { left = c.open_folder.ensures.left; acts = c.open_folder.ensures.acts; log_is = c.in-Ok.ensures.log; point_is = c.in-Ok.ensures.point } in
+    let ready = c.in-Ok-ready_silo.ensures.ready old f in
+    ready.drops
 
 pub answer_on-done-requires-clause-opened : goal.answer_on-done-requires-clause-opened
 answer_on-done-requires-clause-opened g c =
@@ -107,7 +119,7 @@ returns-clause-has g c =
     let new = log_view g.F.LogHost.begun g.F.LogHost.acts g.F.LogHost.past g.F.LogHost.failed c.answer_on-done.new.files in
     let own = started version silo.setup in
     let opens = c.in-Ok-ready_silo.ensures.opens old f in
-    on_ok_so c.answer_on-done.result _ _ (λ had synced. let is = had synced in record { own = own; view = view; opens = opens; holds = (subst (λ (n : ℕ). HasInput own n (since view new) (g.R.Read.remaining c.args.input.now.reader)) ready.sends_are (subst (λ (k : ℕ). HasInput (started (version_of g.L.GrainLogic.logic k) silo.setup) task.sends (since view new) (g.R.Read.remaining c.args.input.now.reader)) ready.kinds is)) }) c.answer_on-done.ensures.has
+    on_ok_so c.answer_on-done.result _ _ (λ had synced. let is = had synced in record { own = own; view = view; opens = opens; holds = (subst (λ (n : ℕ). RunHas own n (since view new) (g.R.Read.remaining c.args.input.now.reader)) ready.sends_are (subst (λ (k : ℕ). RunHas (started (version_of g.L.GrainLogic.logic k) silo.setup) task.sends (since view new) (g.R.Read.remaining c.args.input.now.reader)) ready.kinds is)) }) c.answer_on-done.ensures.has
 
 pub returns-clause-fault : goal.returns-clause-fault
 returns-clause-fault g c =
@@ -142,4 +154,4 @@ returns-clause-lasts g c synced known =
     let own = started version silo.setup in
     let opens = c.in-Ok-ready_silo.ensures.opens old f in
     let is = c.answer_on-done.ensures.lasts synced in
-    inr (record { own = own; view = view; opens = opens; holds = (subst (λ (n : ℕ). DataLasts own n (since view new)) ready.sends_are (subst (λ (k : ℕ). DataLasts (started (version_of g.L.GrainLogic.logic k) silo.setup) task.sends (since view new)) ready.kinds is)) })
+    inr (record { own = own; view = view; opens = opens; holds = (subst (λ (n : ℕ). RunLasts own n (since view new)) ready.sends_are (subst (λ (k : ℕ). RunLasts (started (version_of g.L.GrainLogic.logic k) silo.setup) task.sends (since view new)) ready.kinds is)) })

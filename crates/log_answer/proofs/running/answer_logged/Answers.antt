@@ -1,23 +1,25 @@
-use Rattle.std.proofs.Common.{Ok, Err, refl, ap, ◌∙◌, arith}
+use Rattle.std.proofs.Common.{◌+◌, Ok, Err, refl, ap, ◌∙◌, arith}
+use Rattle.std.proofs.KnownBytes.{Keeps-refl}
+use Rattle.line_protocol.specs.Reading.{left_of}
 use Rattle.line_protocol.proofs.ReadLines.{handed}
 use Rattle.line_protocol.proofs.Run.{nothing_ahead}
 use Rattle.line_protocol.proofs.TakenLines.{TakesPart-kept, TakesPart-none}
-use Rattle.log_answer.proofs.Left.{left_self, logs_on}
-use Rattle.log_answer.proofs.Going.{gathered_on, going_ends, going_full, going_goes, going_keeps, going_memory, going_moved, going_none, going_stops, going_tables, lasts_ended, lasts_now, lasts_stopped, owns_ended, owns_now, owns_stopped}
+use Rattle.log_answer.proofs.Left.{left_self}
+use Rattle.log_answer.proofs.Going.{gathered_on, going_full, going_memory, going_moved, going_none, going_runs, going_stops, going_tables, lasts_ended, lasts_now, lasts_stopped, owns_ended, owns_now, owns_stopped}
 use Rattle.log_answer.proofs.Kept.{stops_behind, stops_commit}
 use Rattle.log_answer.proofs.running.answer_logged.Goals as goal
 
 pub loop-count-init : goal.loop-count-init
 loop-count-init g c =
-    (record { all = _; has = left_self _ _; going = going_none _ _ _ _ _ _ _ _ _ c.journal.ensures.leads (c.journal.ensures.idle c.requires) c.new-batch.ensures.0 c.new-batch.ensures.1 }, c.requires, refl, refl, refl, refl, λ none. none, refl)
+    ((0, omega arith, record { all = _; has = left_self _ _; going = going_none _ _ _ _ _ _ _ _ _ c.journal.ensures.leads (c.journal.ensures.idle c.requires.ready) c.new-batch.ensures.0 c.new-batch.ensures.1 }), c.requires.ready, refl, refl, refl, refl, λ none. none, refl)
 
 pub loop-count-preserved : goal.loop-count-preserved
 loop-count-preserved g c =
     let inv = c.loop-count.invariant in
     let taken = c.in_ok-take_next.ensures in
     let more = ap Ok c.if-not-branch.false in
-    let moved = going_moved _ _ _ _ _ _ _ _ _ _ _ _ _ _ _ inv.0.going _ _ _ _ _ (taken.moves more) in (
-      gathered_on _ _ _ _ _ _ _ _ _ _ _ _ _ _ _ moved _ _ _ _ inv.5 inv.0.has _ _ _ _ _ c.line.ensures (taken.line more) c.in_ok-answer_more.ensures.gathers,
+    let moved = going_moved _ _ _ _ _ _ _ _ _ _ _ _ _ _ _ inv.0.2.going _ _ _ _ _ (taken.moves more) in (
+      (inv.0.0 + 1, omega (arith, inv.0.1), gathered_on _ _ _ _ _ _ _ _ _ _ _ _ _ _ _ moved _ _ _ _ inv.5 inv.0.2.has _ _ _ _ _ c.line-line.ensures (taken.line more) c.in_ok-answer_more.ensures.gathers),
       c.in_ok-answer_more.ensures.ready,
       taken.unfailed ∙ inv.2,
       taken.output ∙ inv.3,
@@ -29,152 +31,136 @@ loop-count-preserved g c =
 
 -- ---- the end of the input
 
-pub returns-then-not-branch-clause-answered : goal.returns-then-not-branch-clause-answered
-returns-then-not-branch-clause-answered g c =
+pub returns-then-not-branch-clause-ran : goal.returns-then-not-branch-clause-ran
+returns-then-not-branch-clause-ran g c =
     let taken = c.in_ok-take_next.ensures in
     let none = ap Ok c.if-not-branch.true in
-    let new = c.take_next.new in
-    logs_on _ _ _ _ _ _ _ _ _ _ _ c.loop-count.invariant.0.has
-    (going_ends _ _ _ _ _ _ _ _ _ _ _ _ _ _ _ c.loop-count.invariant.0.going _ _ _ (taken.commits none) new.input.lines (g.R.Read.remaining new.input.reader) (taken.kept none)
-    _ refl (taken.none none) (taken.end none))
+    let inv = c.loop-count.invariant.0 in
+    (inv.0, inv.1, going_runs _ _ _ _ _ _ _ _ _ _ _ _ _ _ _ inv.2.going _ _ inv.2.has _ _ _ (taken.commits none) _ (taken.kept none))
 
-pub returns-then-not-branch-clause-kept : goal.returns-then-not-branch-clause-kept
-returns-then-not-branch-clause-kept g c =
+pub returns-then-not-branch-clause-ended : goal.returns-then-not-branch-clause-ended
+returns-then-not-branch-clause-ended g c on =
     let taken = c.in_ok-take_next.ensures in
     let none = ap Ok c.if-not-branch.true in
-    let new = c.take_next.new in
-    going_keeps _ _ _ _ _ _ _ _ _ _ _ _ _ _ _ c.loop-count.invariant.0.going _ _ _ (taken.commits none) new.input.lines (g.R.Read.remaining new.input.reader) (taken.kept none)
-    (taken.none none) (taken.end none)
+    (taken.none none, taken.end none)
+
+pub returns-clause-ran : goal.returns-clause-ran
+returns-clause-ran g c =
+    let inv = c.loop-count.invariant.0 in
+    (inv.0, omega (arith, inv.1), going_runs _ _ _ _ _ _ _ _ _ _ _ _ _ _ _ inv.2.going _ _ inv.2.has _ _ _ c.in_ok-last.ensures.commits _ c.in_ok-fill.ensures.bytes)
+
+pub returns-clause-ended : goal.returns-clause-ended
+returns-clause-ended g c on =
+    let filled = c.in_ok-fill.ensures in
+    let none = ap Ok c.if-branch.false in
+    (filled.none none, filled.end none)
 
 pub returns-then-not-branch-clause-lasts : goal.returns-then-not-branch-clause-lasts
 returns-then-not-branch-clause-lasts g c =
-    lasts_ended _ _ _ _ _ _ _ _ _ _ _ _ _ _ _ c.loop-count.invariant.0.going _ _ _ (c.in_ok-take_next.ensures.commits (ap Ok c.if-not-branch.true))
-
-pub returns-then-not-branch-clause-goes : goal.returns-then-not-branch-clause-goes
-returns-then-not-branch-clause-goes g c =
-    going_goes _ _ _ _ _ _ _ _ _ _ _ _ _ _ _ c.loop-count.invariant.0.going _ _ c.loop-count.invariant.0.has _ _ _ (c.in_ok-take_next.ensures.commits (ap Ok c.if-not-branch.true))
-
-pub returns-clause-goes : goal.returns-clause-goes
-returns-clause-goes g c =
-    going_goes _ _ _ _ _ _ _ _ _ _ _ _ _ _ _ c.loop-count.invariant.0.going _ _ c.loop-count.invariant.0.has _ _ _ c.in_ok-commit_batch.ensures.commits
-
-pub returns-clause-answered : goal.returns-clause-answered
-returns-clause-answered g c =
-    let filled = c.in_ok-fill.ensures in
-    let none = ap Ok c.if-branch.false in
-    logs_on _ _ _ _ _ _ _ _ _ _ _ c.loop-count.invariant.0.has
-    (going_ends _ _ _ _ _ _ _ _ _ _ _ _ _ _ _ c.loop-count.invariant.0.going _ _ _ c.in_ok-commit_batch.ensures.commits c.fill.new.self (g.R.Read.remaining c.fill.new.reader) filled.bytes
-    _ (omega arith) (filled.none none) (filled.end none))
-
-pub returns-clause-kept : goal.returns-clause-kept
-returns-clause-kept g c =
-    let filled = c.in_ok-fill.ensures in
-    let none = ap Ok c.if-branch.false in
-    going_keeps _ _ _ _ _ _ _ _ _ _ _ _ _ _ _ c.loop-count.invariant.0.going _ _ _ c.in_ok-commit_batch.ensures.commits c.fill.new.self (g.R.Read.remaining c.fill.new.reader) filled.bytes
-    (filled.none none) (filled.end none)
+    lasts_ended _ _ _ _ _ _ _ _ _ _ _ _ _ _ _ c.loop-count.invariant.0.2.going _ _ _ (c.in_ok-take_next.ensures.commits (ap Ok c.if-not-branch.true))
 
 pub returns-clause-lasts : goal.returns-clause-lasts
-returns-clause-lasts g c = lasts_ended _ _ _ _ _ _ _ _ _ _ _ _ _ _ _ c.loop-count.invariant.0.going _ _ _ c.in_ok-commit_batch.ensures.commits
+returns-clause-lasts g c = lasts_ended _ _ _ _ _ _ _ _ _ _ _ _ _ _ _ c.loop-count.invariant.0.2.going _ _ _ c.in_ok-last.ensures.commits
 
 -- ---- no line was taken
 
 pub returns-in_err-take_next-clause-stops : goal.returns-in_err-take_next-clause-stops
 returns-in_err-take_next-clause-stops g c =
     let new = c.take_next.new in
-    handed c.from_residual.result _ _ c.from_residual.ensures.1
-    (going_stops _ _ _ _ _ _ _ _ _ _ _ _ _ _ _ c.loop-count.invariant.0.going _ _ (g.R.Read.remaining new.input.reader) (g.H.LogHost.acts new.log) new.input.lines (g.H.LogHost.failed new.log) c.in_err-take_next.ensures.stops)
+    handed c.from_residual-in_err-take_next.result _ _ c.from_residual-in_err-take_next.ensures.1
+    (going_stops _ _ _ _ _ _ _ _ _ _ _ _ _ _ _ c.loop-count.invariant.0.2.going _ _ _ (g.R.Read.remaining new.input.reader) (g.H.LogHost.acts new.log) new.input.lines (g.H.LogHost.failed new.log) c.in_err-take_next.ensures.stops)
 
 pub returns-in_err-take_next-clause-lasts : goal.returns-in_err-take_next-clause-lasts
 returns-in_err-take_next-clause-lasts g c =
     let new = c.take_next.new in
-    lasts_stopped _ _ _ _ _ _ _ _ _ _ _ _ _ _ _ c.loop-count.invariant.0.going _ _ _ (g.H.LogHost.acts new.log) new.input.lines (g.H.LogHost.failed new.log) c.in_err-take_next.ensures.stops
+    lasts_stopped _ _ _ _ _ _ _ _ _ _ _ _ _ _ _ c.loop-count.invariant.0.2.going _ _ _ (g.H.LogHost.acts new.log) new.input.lines (g.H.LogHost.failed new.log) c.in_err-take_next.ensures.stops
 
 -- ---- a line wasn't answered
 
 pub returns-in_err-answer_more-clause-stops : goal.returns-in_err-answer_more-clause-stops
 returns-in_err-answer_more-clause-stops g c =
     let new = c.take_next.new in
-    let moved = going_moved _ _ _ _ _ _ _ _ _ _ _ _ _ _ _ c.loop-count.invariant.0.going _ _ _ _ _ (c.in_ok-take_next.ensures.moves (ap Ok c.if-not-branch.false)) in
+    let moved = going_moved _ _ _ _ _ _ _ _ _ _ _ _ _ _ _ c.loop-count.invariant.0.2.going _ _ _ _ _ (c.in_ok-take_next.ensures.moves (ap Ok c.if-not-branch.false)) in
     handed c.from_residual-in_err-answer_more.result _ _ c.from_residual-in_err-answer_more.ensures.1
-    (going_memory _ _ _ _ _ _ _ _ _ _ _ _ _ _ _ moved new.input.lines (g.R.Read.remaining new.input.reader) (g.H.LogHost.failed new.log))
+    (going_memory _ _ _ _ _ _ _ _ _ _ _ _ _ _ _ moved c.args.from.count new.input.lines (g.R.Read.remaining new.input.reader) (g.H.LogHost.failed new.log))
 
 pub returns-in_err-answer_more-clause-lasts : goal.returns-in_err-answer_more-clause-lasts
 returns-in_err-answer_more-clause-lasts g c =
     lasts_now _ _ _ _ _ _ _ _ _ _ _ _ _ _ _
-    (going_moved _ _ _ _ _ _ _ _ _ _ _ _ _ _ _ c.loop-count.invariant.0.going _ _ _ _ _ (c.in_ok-take_next.ensures.moves (ap Ok c.if-not-branch.false)))
+    (going_moved _ _ _ _ _ _ _ _ _ _ _ _ _ _ _ c.loop-count.invariant.0.2.going _ _ _ _ _ (c.in_ok-take_next.ensures.moves (ap Ok c.if-not-branch.false)))
 
 -- ---- behind the last line
 
-pub returns-in_err-commit_batch-clause-stops : goal.returns-in_err-commit_batch-clause-stops
-returns-in_err-commit_batch-clause-stops g c =
-    let broken = c.in_err-commit_batch.ensures in
+pub returns-in_err-last-clause-stops : goal.returns-in_err-last-clause-stops
+returns-in_err-last-clause-stops g c =
+    let broken = c.in_err-last.ensures in
     let input = c.loop-count.input in
-    let log = c.commit_batch.new.log in
+    let log = c.commit_batch-2.new.log in
     let stops = stops_commit _ _ (g.H.LogHost.acts log) _ _ _ _ _ _ (g.R.Read.remaining input.reader) input.lines (g.H.LogHost.failed log) broken.breaks (λ e. broken.memory (ap Err e)) (λ e. broken.failed (ap Err e)) in
-    handed c.from_residual-in_err-commit_batch.result _ _ c.from_residual-in_err-commit_batch.ensures.1
-    (going_stops _ _ _ _ _ _ _ _ _ _ _ _ _ _ _ c.loop-count.invariant.0.going _ _ (g.R.Read.remaining input.reader) (g.H.LogHost.acts log) input.lines (g.H.LogHost.failed log) stops)
+    handed c.from_residual-in_err-last.result _ _ c.from_residual-in_err-last.ensures.1
+    (going_stops _ _ _ _ _ _ _ _ _ _ _ _ _ _ _ c.loop-count.invariant.0.2.going _ _ _ (g.R.Read.remaining input.reader) (g.H.LogHost.acts log) input.lines (g.H.LogHost.failed log) stops)
 
-pub returns-in_err-commit_batch-clause-lasts : goal.returns-in_err-commit_batch-clause-lasts
-returns-in_err-commit_batch-clause-lasts g c =
-    let broken = c.in_err-commit_batch.ensures in
+pub returns-in_err-last-clause-lasts : goal.returns-in_err-last-clause-lasts
+returns-in_err-last-clause-lasts g c =
+    let broken = c.in_err-last.ensures in
     let input = c.loop-count.input in
-    let log = c.commit_batch.new.log in
+    let log = c.commit_batch-2.new.log in
     let stops = stops_commit _ _ (g.H.LogHost.acts log) _ _ _ _ _ _ (g.R.Read.remaining input.reader) input.lines (g.H.LogHost.failed log) broken.breaks (λ e. broken.memory (ap Err e)) (λ e. broken.failed (ap Err e)) in
-    lasts_stopped _ _ _ _ _ _ _ _ _ _ _ _ _ _ _ c.loop-count.invariant.0.going _ _ (g.R.Read.remaining input.reader) (g.H.LogHost.acts log) input.lines (g.H.LogHost.failed log) stops
+    lasts_stopped _ _ _ _ _ _ _ _ _ _ _ _ _ _ _ c.loop-count.invariant.0.2.going _ _ (g.R.Read.remaining input.reader) (g.H.LogHost.acts log) input.lines (g.H.LogHost.failed log) stops
 
 pub returns-in_err-fill-clause-stops : goal.returns-in_err-fill-clause-stops
 returns-in_err-fill-clause-stops g c =
     let filled = c.in_err-fill.ensures in
     let reading = c.fill.new.self in
     let rest = g.R.Read.remaining c.fill.new.reader in
-    let log = c.commit_batch.new.log in
-    let stops = stops_behind c.in_err-fill.field-0.0 _ (g.H.LogHost.acts log) _ _ _ _ _ _ rest reading (g.H.LogHost.failed log) _ c.in_ok-commit_batch.ensures.commits
+    let log = c.commit_batch-2.new.log in
+    let stops = stops_behind c.in_err-fill.field-0.0 _ (g.H.LogHost.acts log) _ _ _ _ _ _ rest reading (g.H.LogHost.failed log) _ c.in_ok-last.ensures.commits
     (TakesPart-kept _ _ _ (TakesPart-none _) filled.bytes) filled.cause (nothing_ahead _ reading filled.failed) in
     handed c.from_residual-in_err-fill.result _ _ c.from_residual-in_err-fill.ensures.1
-    (going_stops _ _ _ _ _ _ _ _ _ _ _ _ _ _ _ c.loop-count.invariant.0.going _ _ rest (g.H.LogHost.acts log) reading (g.H.LogHost.failed log) stops)
+    (going_stops _ _ _ _ _ _ _ _ _ _ _ _ _ _ _ c.loop-count.invariant.0.2.going _ _ _ rest (g.H.LogHost.acts log) reading (g.H.LogHost.failed log) stops)
 
 pub returns-in_err-fill-clause-lasts : goal.returns-in_err-fill-clause-lasts
-returns-in_err-fill-clause-lasts g c = lasts_ended _ _ _ _ _ _ _ _ _ _ _ _ _ _ _ c.loop-count.invariant.0.going _ _ _ c.in_ok-commit_batch.ensures.commits
+returns-in_err-fill-clause-lasts g c = lasts_ended _ _ _ _ _ _ _ _ _ _ _ _ _ _ _ c.loop-count.invariant.0.2.going _ _ _ c.in_ok-last.ensures.commits
 
 pub returns-then-branch-clause-stops : goal.returns-then-branch-clause-stops
 returns-then-branch-clause-stops g c =
     let filled = c.in_ok-fill.ensures in
-    going_full _ _ _ _ _ _ _ _ _ _ _ _ _ _ _ c.loop-count.invariant.0.going _ _ _ c.in_ok-commit_batch.ensures.commits c.fill.new.self (g.R.Read.remaining c.fill.new.reader) filled.bytes
-    (g.H.LogHost.failed c.commit_batch.new.log) (omega arith) (filled.some (ap Ok c.if-branch.true))
+    going_full _ _ _ _ _ _ _ _ _ _ _ _ _ _ _ c.loop-count.invariant.0.2.going _ _ _ c.in_ok-last.ensures.commits c.fill.new.self (g.R.Read.remaining c.fill.new.reader) filled.bytes
+    _ (g.H.LogHost.failed c.commit_batch-2.new.log) (omega (arith, c.loop-count.invariant.0.1)) (filled.some (ap Ok c.if-branch.true))
 
 pub returns-then-branch-clause-lasts : goal.returns-then-branch-clause-lasts
-returns-then-branch-clause-lasts g c = lasts_ended _ _ _ _ _ _ _ _ _ _ _ _ _ _ _ c.loop-count.invariant.0.going _ _ _ c.in_ok-commit_batch.ensures.commits
+returns-then-branch-clause-lasts g c = lasts_ended _ _ _ _ _ _ _ _ _ _ _ _ _ _ _ c.loop-count.invariant.0.2.going _ _ _ c.in_ok-last.ensures.commits
 
 pub returns-then-not-branch-clause-own : goal.returns-then-not-branch-clause-own
 returns-then-not-branch-clause-own g c =
-    owns_ended _ _ _ _ _ _ _ _ _ _ _ _ _ _ _ c.loop-count.invariant.0.going _ _ _ (c.in_ok-take_next.ensures.commits (ap Ok c.if-not-branch.true))
+    owns_ended _ _ _ _ _ _ _ _ _ _ _ _ _ _ _ c.loop-count.invariant.0.2.going _ _ _ (c.in_ok-take_next.ensures.commits (ap Ok c.if-not-branch.true))
 
 pub returns-clause-own : goal.returns-clause-own
-returns-clause-own g c = owns_ended _ _ _ _ _ _ _ _ _ _ _ _ _ _ _ c.loop-count.invariant.0.going _ _ _ c.in_ok-commit_batch.ensures.commits
+returns-clause-own g c = owns_ended _ _ _ _ _ _ _ _ _ _ _ _ _ _ _ c.loop-count.invariant.0.2.going _ _ _ c.in_ok-last.ensures.commits
 
 pub returns-in_err-take_next-clause-own : goal.returns-in_err-take_next-clause-own
 returns-in_err-take_next-clause-own g c =
     let new = c.take_next.new in
-    owns_stopped _ _ _ _ _ _ _ _ _ _ _ _ _ _ _ c.loop-count.invariant.0.going _ _ _ (g.H.LogHost.acts new.log) new.input.lines (g.H.LogHost.failed new.log) c.in_err-take_next.ensures.stops
+    owns_stopped _ _ _ _ _ _ _ _ _ _ _ _ _ _ _ c.loop-count.invariant.0.2.going _ _ _ (g.H.LogHost.acts new.log) new.input.lines (g.H.LogHost.failed new.log) c.in_err-take_next.ensures.stops
 
 pub returns-in_err-answer_more-clause-own : goal.returns-in_err-answer_more-clause-own
 returns-in_err-answer_more-clause-own g c =
     owns_now _ _ _ _ _ _ _ _ _ _ _ _ _ _ _
-    (going_moved _ _ _ _ _ _ _ _ _ _ _ _ _ _ _ c.loop-count.invariant.0.going _ _ _ _ _ (c.in_ok-take_next.ensures.moves (ap Ok c.if-not-branch.false)))
+    (going_moved _ _ _ _ _ _ _ _ _ _ _ _ _ _ _ c.loop-count.invariant.0.2.going _ _ _ _ _ (c.in_ok-take_next.ensures.moves (ap Ok c.if-not-branch.false)))
 
-pub returns-in_err-commit_batch-clause-own : goal.returns-in_err-commit_batch-clause-own
-returns-in_err-commit_batch-clause-own g c =
-    let broken = c.in_err-commit_batch.ensures in
+pub returns-in_err-last-clause-own : goal.returns-in_err-last-clause-own
+returns-in_err-last-clause-own g c =
+    let broken = c.in_err-last.ensures in
     let input = c.loop-count.input in
-    let log = c.commit_batch.new.log in
+    let log = c.commit_batch-2.new.log in
     let stops = stops_commit _ _ (g.H.LogHost.acts log) _ _ _ _ _ _ (g.R.Read.remaining input.reader) input.lines (g.H.LogHost.failed log) broken.breaks (λ e. broken.memory (ap Err e)) (λ e. broken.failed (ap Err e)) in
-    owns_stopped _ _ _ _ _ _ _ _ _ _ _ _ _ _ _ c.loop-count.invariant.0.going _ _ (g.R.Read.remaining input.reader) (g.H.LogHost.acts log) input.lines (g.H.LogHost.failed log) stops
+    owns_stopped _ _ _ _ _ _ _ _ _ _ _ _ _ _ _ c.loop-count.invariant.0.2.going _ _ (g.R.Read.remaining input.reader) (g.H.LogHost.acts log) input.lines (g.H.LogHost.failed log) stops
 
 pub returns-in_err-fill-clause-own : goal.returns-in_err-fill-clause-own
-returns-in_err-fill-clause-own g c = owns_ended _ _ _ _ _ _ _ _ _ _ _ _ _ _ _ c.loop-count.invariant.0.going _ _ _ c.in_ok-commit_batch.ensures.commits
+returns-in_err-fill-clause-own g c = owns_ended _ _ _ _ _ _ _ _ _ _ _ _ _ _ _ c.loop-count.invariant.0.2.going _ _ _ c.in_ok-last.ensures.commits
 
 pub returns-then-branch-clause-own : goal.returns-then-branch-clause-own
-returns-then-branch-clause-own g c = owns_ended _ _ _ _ _ _ _ _ _ _ _ _ _ _ _ c.loop-count.invariant.0.going _ _ _ c.in_ok-commit_batch.ensures.commits
+returns-then-branch-clause-own g c = owns_ended _ _ _ _ _ _ _ _ _ _ _ _ _ _ _ c.loop-count.invariant.0.2.going _ _ _ c.in_ok-last.ensures.commits
 
 -- what was told went out
 
@@ -182,12 +168,51 @@ pub returns-then-not-branch-clause-out : goal.returns-then-not-branch-clause-out
 returns-then-not-branch-clause-out g c none = c.in_ok-take_next.ensures.out (c.loop-count.invariant.6 none)
 
 pub returns-clause-out : goal.returns-clause-out
-returns-clause-out g c none = c.in_ok-commit_batch.ensures.out (c.loop-count.invariant.6 none)
+returns-clause-out g c none = c.in_ok-last.ensures.out (c.loop-count.invariant.6 none)
 
 -- the tenants are the same
 
 pub returns-then-not-branch-clause-tables : goal.returns-then-not-branch-clause-tables
-returns-then-not-branch-clause-tables g c = going_tables _ _ _ _ _ _ _ _ _ _ _ _ _ _ _ _ c.loop-count.invariant.0
+returns-then-not-branch-clause-tables g c = going_tables _ _ _ _ _ _ _ _ _ _ _ _ _ _ _ _ c.loop-count.invariant.0.2
 
 pub returns-clause-tables : goal.returns-clause-tables
-returns-clause-tables g c = going_tables _ _ _ _ _ _ _ _ _ _ _ _ _ _ _ _ c.loop-count.invariant.0
+returns-clause-tables g c = going_tables _ _ _ _ _ _ _ _ _ _ _ _ _ _ _ _ c.loop-count.invariant.0.2
+
+pub returns-in_err-next-clause-stops : goal.returns-in_err-next-clause-stops
+returns-in_err-next-clause-stops g c =
+    let broken = c.in_err-next.ensures in
+    let input = c.loop-count.input in
+    let log = c.commit_batch.new.log in
+    let stops = stops_commit _ _ (g.H.LogHost.acts log) _ _ _ _ _ _ (g.R.Read.remaining input.reader) input.lines (g.H.LogHost.failed log) broken.breaks (λ e. broken.memory (ap Err e)) (λ e. broken.failed (ap Err e)) in
+    handed c.from_residual.result _ _ c.from_residual.ensures.1
+    (going_stops _ _ _ _ _ _ _ _ _ _ _ _ _ _ _ c.loop-count.invariant.0.2.going _ _ _ (g.R.Read.remaining input.reader) (g.H.LogHost.acts log) input.lines (g.H.LogHost.failed log) stops)
+
+pub returns-in_err-next-clause-lasts : goal.returns-in_err-next-clause-lasts
+returns-in_err-next-clause-lasts g c =
+    let broken = c.in_err-next.ensures in
+    let input = c.loop-count.input in
+    let log = c.commit_batch.new.log in
+    let stops = stops_commit _ _ (g.H.LogHost.acts log) _ _ _ _ _ _ (g.R.Read.remaining input.reader) input.lines (g.H.LogHost.failed log) broken.breaks (λ e. broken.memory (ap Err e)) (λ e. broken.failed (ap Err e)) in
+    lasts_stopped _ _ _ _ _ _ _ _ _ _ _ _ _ _ _ c.loop-count.invariant.0.2.going _ _ (g.R.Read.remaining input.reader) (g.H.LogHost.acts log) input.lines (g.H.LogHost.failed log) stops
+
+pub returns-in_err-next-clause-own : goal.returns-in_err-next-clause-own
+returns-in_err-next-clause-own g c =
+    let broken = c.in_err-next.ensures in
+    let input = c.loop-count.input in
+    let log = c.commit_batch.new.log in
+    let stops = stops_commit _ _ (g.H.LogHost.acts log) _ _ _ _ _ _ (g.R.Read.remaining input.reader) input.lines (g.H.LogHost.failed log) broken.breaks (λ e. broken.memory (ap Err e)) (λ e. broken.failed (ap Err e)) in
+    owns_stopped _ _ _ _ _ _ _ _ _ _ _ _ _ _ _ c.loop-count.invariant.0.2.going _ _ (g.R.Read.remaining input.reader) (g.H.LogHost.acts log) input.lines (g.H.LogHost.failed log) stops
+
+-- ---- a pause
+
+pub returns-then-count-from-clause-ran : goal.returns-then-count-from-clause-ran
+returns-then-count-from-clause-ran g c =
+    let inv = c.loop-count.invariant.0 in
+    let input = c.loop-count.input in
+    (inv.0, inv.1, going_runs _ _ _ _ _ _ _ _ _ _ _ _ _ _ _ inv.2.going _ _ inv.2.has _ _ _ c.in_ok-next.ensures.commits _ (Keeps-refl (left_of input.lines (g.R.Read.remaining input.reader))))
+
+pub returns-then-count-from-clause-lasts : goal.returns-then-count-from-clause-lasts
+returns-then-count-from-clause-lasts g c = lasts_ended _ _ _ _ _ _ _ _ _ _ _ _ _ _ _ c.loop-count.invariant.0.2.going _ _ _ c.in_ok-next.ensures.commits
+
+pub returns-then-count-from-clause-own : goal.returns-then-count-from-clause-own
+returns-then-count-from-clause-own g c = owns_ended _ _ _ _ _ _ _ _ _ _ _ _ _ _ _ c.loop-count.invariant.0.2.going _ _ _ c.in_ok-next.ensures.commits

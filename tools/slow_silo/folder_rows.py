@@ -1,8 +1,8 @@
 """Worked rows of folders with checkpoints, as the program keeps them, before and after, to be followed by hand.
 
-A checkpoint is made at the end of the input alone. `ENDED` are inputs of the program; those of `BOTH`, and the texts of `FAULTY`, are also
-of the form that is to come (`switch_rows`). Each of `END_CALLS` is a function that says whether it holds. `cut_rows` has lives that end at
-each call.
+`FOLDERS` are inputs of the program; those of `BOTH`, and the texts of `FAULTY`, are also of the form that is to come (`switch_rows`).
+Each of `FOLDER_CALLS` is a function that says whether it holds. `running_rows` has logs that are replaced while a silo runs, and
+`cut_rows` lives that end at each call.
 """
 
 from __future__ import annotations
@@ -54,37 +54,39 @@ sum 3d624f2648a4ee39
 BEHIND = after(FIRST_POINT)
 BATCH = log_of(SECOND, number=of(FIRST_POINT))
 HEAD = log_of(number=of(FIRST_POINT))
+EMPTY = log_of(([], []))
 STALE = {"d/checkpoint": FIRST_POINT, "d/log": log_of(FIRST)}
-ALL = after(point(ADD + MORE + GET, of(FIRST_POINT)))
+TWO_POINT = point(ADD + MORE, of(FIRST_POINT))
+ALL = after(point(ADD + MORE + GET, of(TWO_POINT)))
 STARTS = [
     row("at the end of the input there is a checkpoint, and a log that goes on from it", {"d/log": log_of()}, ADD, ok(1, 3), BEHIND),
-    row("a start goes on from both", BEHIND, MORE, ok(2, 7), after(point(ADD + MORE, of(FIRST_POINT)))),
+    row("a start goes on from both", BEHIND, MORE, ok(2, 7), after(TWO_POINT)),
     row("a start that is asked nothing changes nothing", BEHIND, [], [], BEHIND),
     row("nor is there a checkpoint of a log of no line", {"d/log": log_of()}, [], [], {"d/log": log_of(), "d/lock": ""}),
-    row("lines that a log has are answered again, and are then in a checkpoint", {**BEHIND, "d/log": BATCH}, [], [],
-        after(point(ADD + MORE, of(FIRST_POINT)))),
+    row("nor of one of a batch of no line", {"d/log": EMPTY}, [], [], {"d/log": EMPTY, "d/lock": ""}),
+    row("lines that a log has are answered again, and are then in a checkpoint", {**BEHIND, "d/log": BATCH}, [], [], after(TWO_POINT)),
     row("so are those of a log that goes on from nothing", {"d/log": TWO}, [], [], after(point(ADD + MORE))),
+    row("what is asked then goes on from that checkpoint", {**BEHIND, "d/log": BATCH}, GET, ok(3, 7), ALL),
+    row("behind a torn end, too", {**BEHIND, "d/log": BATCH + "+{"}, GET, ok(3, 7), ALL),
     row("a torn end is cut off", {**BEHIND, "d/log": HEAD + "+{"}, [], [], BEHIND),
     row("the log that the checkpoint replaced is passed over", STALE, [], [], BEHIND),
     row("whatever stands behind its head", {**STALE, "d/log": TWO + "what\n"}, GET, ok(3, 3), after(point(ADD + GET, of(FIRST_POINT)))),
     row("what was begun beside is passed over", {**BEHIND, "d/checkpoint.new": "silo-ch", "d/log.new": "si"}, MORE, ok(2, 7),
-        after(point(ADD + MORE, of(FIRST_POINT)))),
-    row("nothing is brought to the disk", BEHIND, MORE, ok(2, 7), after(point(ADD + MORE, of(FIRST_POINT))), [*ANSWER, "--no-sync"]),
+        after(TWO_POINT)),
+    row("nothing is brought to the disk", BEHIND, MORE, ok(2, 7), after(TWO_POINT), [*ANSWER, "--no-sync"]),
 ]
 # a number may have any bytes but LF, if the head's sum fits: those of visible ASCII can stand in a checkpoint
 ODD = numbered_log(b"0123456789-ABC\"'", FIRST)
 ODD_POINT = changed(FIRST_POINT, NUMBER).replace("follows 0123456789abcdef", "follows 0123456789-ABC\"'")
 ODD_POINT = summed(ODD_POINT[:ODD_POINT.rindex("sum ")])
-BLANK = numbered_log(b"0123456789 abcde", FIRST)
-EMPTY = log_of(([], []))
-ONCE = [
-    row("lines that are answered again, and those that are asked, are in one checkpoint", {**BEHIND, "d/log": BATCH}, GET, ok(3, 7), ALL),
-    row("behind a torn end, too", {**BEHIND, "d/log": BATCH + "+{"}, GET, ok(3, 7), ALL),
+BLANK = b"0123456789 abcde"
+NUMBERS = [
     row("a number that isn't of such digits is followed, too", {"d/log": ODD}, [], [], after(ODD_POINT)),
     row("and the log that has it is passed over", {"d/log": ODD, "d/checkpoint": ODD_POINT}, [], [], after(ODD_POINT)),
-    row("of a log whose number no checkpoint can tell there is none", {"d/log": BLANK}, MORE, ok(2, 7),
-        {"d/log": numbered_log(b"0123456789 abcde", FIRST, SECOND), "d/lock": ""}),
-    row("a batch of no line is none", {"d/log": EMPTY}, [], [], {"d/log": EMPTY, "d/lock": ""}),
+    row("of a log whose number no checkpoint can tell there is none", {"d/log": numbered_log(BLANK, FIRST)}, MORE, ok(2, 7),
+        {"d/log": numbered_log(BLANK, FIRST, SECOND), "d/lock": ""}),
+    row("a torn end of it is cut off", {"d/log": numbered_log(BLANK, FIRST) + "+{"}, [], [],
+        {"d/log": numbered_log(BLANK, FIRST), "d/lock": ""}),
 ]
 
 # ---- what is kept
@@ -253,7 +255,7 @@ REFUSED = [
 OTHER_ROW = row("a row of a kind that isn't known is kept", after(ROW_POINT), GET, ok(3, 3),
                 after(changed(point(SAVED + GET), of(ROW_POINT), ROW[:-1], ROW[:-1].replace("counter", "clock"))))
 
-ENDED: list[Row] = [*BOTH, *ONCE, OTHER_ROW, *REFUSED]
+FOLDERS: list[Row] = [*BOTH, *NUMBERS, OTHER_ROW, *REFUSED]
 
 
 # ---- runs
@@ -264,33 +266,18 @@ def files_behind(pieces: Iterator[bytes], files: dict) -> tuple[Run, dict]:
 
 
 def a_fault_makes_no_checkpoint() -> bool:
-    """Neither of the input nor of too many lines, whether the log had lines or not: here an input has one at most."""
+    """Neither of the input nor of too many lines: here an input has one at most. That of the lines that were answered again stays."""
     def failing() -> Iterator[bytes]:
         yield lines_text(GET)
         raise ReaderFailed
 
-    wanted = {**BEHIND, "d/log": log_of(SECOND, (GET, ok(3, 7)), number=of(FIRST_POINT))}
+    wanted = {**after(TWO_POINT), "d/log": log_of((GET, ok(3, 7)), number=of(TWO_POINT))}
     run, left = files_behind(failing(), {**BEHIND, "d/log": BATCH})
     with mock.patch.object(logged, "MAX_ANSWERED_LINES", 1):
         other, also = files_behind(iter([lines_text(GET + MORE)]), {**BEHIND, "d/log": BATCH})
     told = [(it.out, it.errors, it.status) for it in (run, other)]
     return left == also == wanted and told == [(lines_text(ok(3, 7)), b"silo: reading failed\n", 1), (lines_text(ok(3, 7)),
                                                                                                   b"silo: too much input\n", 1)]
-
-
-def a_log_is_not_replaced_while_a_silo_runs() -> bool:
-    """However long it is: here it may have no byte of batches."""
-    held = dict(BEHIND)
-    seen_: list = []
-
-    def pieces() -> Iterator[bytes]:
-        for lines in (MORE, GET):
-            yield lines_text(lines)
-            seen_.append(held["d/checkpoint"])
-
-    files = {path: content.encode() for path, content in held.items()}
-    run = run_program(ANSWER, pieces(), folder_at=lambda path, _synced: data.MemoryFolder(files, path), most_log=0)
-    return run.status == 0 and seen_ == [FIRST_POINT] * 2 and files == {path: content.encode() for path, content in ALL.items()}
 
 
 def on_disk(place: pathlib.Path, lines: list) -> tuple:
@@ -342,6 +329,6 @@ def a_checkpoint_that_is_a_link_is_not_read() -> bool:
     return found == [((b"", b"silo: reading failed\n", 1), True), ((lines_text(ok(1, 3)), b"", 0), True)]
 
 
-END_CALLS: tuple[Callable[[], bool], ...] = (
-    a_fault_makes_no_checkpoint, a_log_is_not_replaced_while_a_silo_runs, a_folder_on_the_disk_goes_on,
-    a_checkpoint_is_on_the_disk_before_it_is_gone_on_from, a_checkpoint_that_is_a_link_is_not_read)
+FOLDER_CALLS: tuple[Callable[[], bool], ...] = (
+    a_fault_makes_no_checkpoint, a_folder_on_the_disk_goes_on, a_checkpoint_is_on_the_disk_before_it_is_gone_on_from,
+    a_checkpoint_that_is_a_link_is_not_read)
