@@ -1,48 +1,42 @@
 -- What of the table a version has.
-use Rattle.std.proofs.Common.{◌≡◌, ℕ, ◌≤◌, ◌<◌, List, Option, None, ap, sym, ◌∙◌, subst}
+use Rattle.std.proofs.Common.{◌≡◌, ℕ, ◌≤◌, ◌<◌, Bool, List, [], ◌∷◌, Option, Some, None, refl, ap, sym, ◌∙◌}
 use Rattle.std.specs.List.{AllByRecursion}
-use Rattle.grain_logic.specs.LawsOfTables.{has_kinds, has_method, has_not}
-use Rattle.grain_logic.specs.Tables.{Kind, kind_in, kind_at, method_at, method_of, method_since, since_of}
+use Rattle.std.specs.Prelude.{if◌then◌else◌}
+use Rattle.std.proofs.lemmas.Bool.{le-leb, lt-leb}
+use Rattle.grain_id.specs.Names.{same_text}
+use Rattle.grain_logic.specs.LawsOfForms.{if_holds}
+use Rattle.grain_logic.specs.LawsOfTables.{has_method, has_not}
+use Rattle.grain_logic.specs.Tables.{Kind, kind_in, kind_since, kind_at, method_at, method_of, method_since, since_of}
 use Rattle.grain_kinds.specs.Kinds.{table}
+use Rattle.grain_kinds.specs.inside.Since.{known_since}
 
--- every kind of the table stands since the first version
-all_stand : (version : ℕ) → 1 ≤ version → AllByRecursion (λ k. k.since ≤ version) table
-all_stand version first = (
-  first,
+-- ---- kinds
+
+known_first : (ks : List Kind) (word : List ℕ) → AllByRecursion (λ k. 1 ≡ k.since) ks → 1 ≡ known_since (kind_in ks word)
+known_first [] word all = refl
+known_first (k ∷ ks) word all =
+    if_holds (λ (o : Option Kind). 1 ≡ known_since o) (same_text word k.word) (Some k) (kind_in ks word)
+    (λ is. all.0) (λ e. known_first ks word all.1)
+
+-- every kind of the table is known since the first version
+pub all_first : (kind : List ℕ) → 1 ≡ known_since (kind_in table kind)
+all_first kind = known_first table kind (
+  refl,
   (
-    first,
+    refl,
     (
-      first,
+      refl,
       tt,
     ),
   ),
 )
 
-pub kinds_stand : (version : ℕ) → 1 ≤ version → (kind : List ℕ) → kind_in table kind ≡ kind_at table version kind
-kinds_stand version first kind = sym (has_kinds version table (all_stand version first) kind)
+-- a kind that is known already, the version has
+pub has_kind : (version : ℕ) (o : Option Kind) → known_since o ≤ version → o ≡ kind_since version o
+has_kind version None le = refl
+has_kind version (Some k) le = sym (ap (λ (b : Bool). if b then Some k else None) (le-leb k.since version le))
 
-by_kind : (version : ℕ) → 1 ≤ version → (kind method : List ℕ)
-    → method_at table version kind method ≡ method_since version (method_of (kind_in table kind) method)
-by_kind version first kind method =
-    ap (λ (o : Option Kind). method_since version (method_of o method)) (sym (kinds_stand version first kind))
-
--- a method that stands, the version has
-pub stands : (version : ℕ) → 1 ≤ version → (kind method : List ℕ) → since_of (method_of (kind_in table kind) method) ≤ version
-    → method_of (kind_in table kind) method ≡ method_at table version kind method
-stands version first kind method since =
-    sym (by_kind version first kind method ∙ has_method version (method_of (kind_in table kind) method) since)
-
--- one that doesn't stand yet, it hasn't
-pub stands_not : (version : ℕ) → 1 ≤ version → (kind method : List ℕ) → version < since_of (method_of (kind_in table kind) method)
-    → None ≡ method_at table version kind method
-stands_not version first kind method before =
-    sym (by_kind version first kind method ∙ has_not version (method_of (kind_in table kind) method) before)
-
--- the same by the code's test
-pub already : (version : ℕ) → 1 ≤ version → (kind method : List ℕ) (since : ℕ) → since ≡ since_of (method_of (kind_in table kind) method)
-    → since ≤ version → method_of (kind_in table kind) method ≡ method_at table version kind method
-already version first kind method since is le = stands version first kind method (subst (λ (n : ℕ). n ≤ version) is le)
-
-pub not_yet : (version : ℕ) → 1 ≤ version → (kind method : List ℕ) (since : ℕ) → since ≡ since_of (method_of (kind_in table kind) method)
-    → version < since → None ≡ method_at table version kind method
-not_yet version first kind method since is lt = stands_not version first kind method (subst (λ (n : ℕ). version < n) is lt)
+-- one that is known later, it hasn't
+pub has_no_kind : (version : ℕ) (o : Option Kind) → version < known_since o → None ≡ kind_since version o
+has_no_kind version None lt = refl
+has_no_kind version (Some k) lt = sym (ap (λ (b : Bool). if b then Some k else None) (lt-leb k.since version lt))

@@ -1,11 +1,12 @@
 //! The table of the kinds `counter`, `sheet` and `relay`, at each version.
 
-ghost use Rattle.std.specs.Prelude.{◌≡◌, ◌≤◌, is_some, IfOk};
+ghost use Rattle.std.specs.Prelude.{◌≡◌, true, false, None, is_some, IfOk};
 ghost use Rattle.request_codec.specs.Tree as tree;
 ghost use Rattle.request_codec.specs.Tree.{no_members, no_fields};
 ghost use Rattle.turn_arena.specs.Ascending.{MapsAscend};
 ghost use Rattle.turn_arena.specs.NodeValue.{node_value};
 ghost use Rattle.grain_kinds.specs.Kinds.{table};
+ghost use Rattle.grain_kinds.specs.inside.Since.{known_since};
 ghost use Rattle.grain_logic.specs.Laws.{FitsState};
 ghost use Rattle.grain_logic.specs.Shortcuts.{IsShortcut};
 ghost use Rattle.grain_logic.specs.Tables.{kind_in, kind_at, method_at, method_of, empty_by, reads_by, plan_by, since_of};
@@ -22,6 +23,13 @@ fn is_known(kind: &str) -> bool
     ensures { result ≡ is_some (kind_in table kind.now) }
 {
     kind == "counter" || kind == "sheet" || kind == "relay"
+}
+
+/// The version since which the kind is known: 1 if there is none of the word.
+fn known_since(_kind: &str) -> u8
+    ensures { result ≡ known_since (kind_in table _kind.now) }
+{
+    1
 }
 
 /// Whether the method of the kind only reads.
@@ -125,19 +133,31 @@ fn shortcut_of(kind: &str, method: &str) -> Shortcut
 }
 
 /// Whether grains of the kind are known at a version.
-pub(crate) fn knows_at(_version: u8, kind: &str) -> bool
-    requires { 1 ≤ _version }
-    ensures { result ≡ is_some (kind_at table _version kind.now) }
+pub(crate) fn knows_at(version: u8, kind: &str) -> bool
+    ensures { result ≡ is_some (kind_at table version kind.now) }
 {
+    if version < known_since(kind) {
+        return false;
+    }
     is_known(kind)
+}
+
+/// Whether what stands under the two words, stands at a version.
+fn stands(version: u8, kind: &str, method: &str) -> bool
+    ensures now { result ≡ true → method_of (kind_in table kind.now) method.now ≡ method_at table version kind.now method.now }
+    ensures later { result ≡ false → None ≡ method_at table version kind.now method.now }
+{
+    if version < known_since(kind) {
+        return false;
+    }
+    since(kind, method) <= version
 }
 
 /// Whether the method of the kind only reads, at a version.
 pub(crate) fn reads_at(version: u8, kind: &str, method: &str) -> bool
-    requires { 1 ≤ version }
     ensures { result ≡ reads_by (method_at table version kind.now method.now) }
 {
-    if version < since(kind, method) {
+    if !stands(version, kind, method) {
         return false;
     }
     only_reads(kind, method)
@@ -145,7 +165,7 @@ pub(crate) fn reads_at(version: u8, kind: &str, method: &str) -> bool
 
 /// The state of a grain of the kind that was never written, at a version.
 pub(crate) fn empty_at(_version: u8, alloc: Global, kind: &str) -> Result<StateBytes, AllocError>
-    requires { 1 ≤ _version }
+    requires { is_some (kind_at table _version kind.now) ≡ true }
     ensures { IfOk result (λ state. state ≡ empty_by (kind_at table _version kind.now)) }
 {
     state_of(alloc, empty_of(kind))
@@ -163,13 +183,12 @@ pub(crate) fn plan_at<'a>(
     state: Node<'a>,
     args: Node<'a>,
 ) -> Result<Plan<'a>, AllocError>
-    requires first { 1 ≤ version }
-    requires fits { FitsState (node_value state) }
+    requires { FitsState (node_value state) }
     ensures { IfOk result
         (λ plan. plan_shown (node_value state.entry) plan
         ≡ plan_by (method_at table version kind.now method.now) (node_value state.entry) (node_value args.entry)) }
 {
-    if version < since(kind, method) {
+    if !stands(version, kind, method) {
         return Ok(Plan::keeps(alloc, Err(MethodFault::UnknownMethod)));
     }
     plan_by(alloc, bump, kind, method, state, args)
@@ -177,10 +196,9 @@ pub(crate) fn plan_at<'a>(
 
 /// What every turn of the method does, if it is little, at a version.
 pub(crate) fn shortcut_at(version: u8, kind: &str, method: &str) -> Shortcut
-    requires { 1 ≤ version }
     ensures { IsShortcut (plan_by (method_at table version kind.now method.now)) result }
 {
-    if version < since(kind, method) {
+    if !stands(version, kind, method) {
         return Shortcut::None;
     }
     shortcut_of(kind, method)

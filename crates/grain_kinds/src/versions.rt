@@ -1,5 +1,8 @@
 //! The versions of the logic: each is a type, with its number.
 
+ghost use Rattle.std.specs.Prelude.{refl};
+ghost use Rattle.grain_kinds.specs.VersionNumbers.{is_version};
+
 use crate::kinds::{empty_at, knows_at, plan_at, reads_at, shortcut_at};
 use bumpalo::Bump;
 use grain_logic::{GrainLogic, Plan, Shortcut};
@@ -26,62 +29,22 @@ pub trait Version: GrainLogic {
     ghost may_be_named: { IsVersion number };
 }
 
-/// The first version: counters, sheets and relays.
+/// The logic of a number. It is a `Version` for the numbers that follow alone, so that a journal names no other.
 #[derive(Clone, Copy, Debug)]
-pub struct Kinds;
+pub struct KindsAt<const NUMBER: u8>;
+
+/// The first version: counters, sheets and relays.
+pub type Kinds = KindsAt<1>;
+
+pub const Kinds: Kinds = KindsAt;
 
 /// The second: each kind has `rest`, which takes null, and `stay`, which takes `{"for": int}`, a number of milliseconds from 1 to
 /// 86,400,000; both keep the state and answer null.
-#[derive(Clone, Copy, Debug)]
-pub struct RestingKinds;
+pub type RestingKinds = KindsAt<2>;
 
-impl GrainLogic for Kinds {
-    ghost use Rattle.grain_kinds.specs.Kinds.{logic_of};
-    ghost use Rattle.grain_kinds.specs.LawsOfKinds.{kinds_lawful};
-
-    ghost logic = { logic_of 1 };
-
-    ghost lawful = { kinds_lawful 1 };
-
-    #[tactic(auto, unfolding(crate::specs::Kinds::logic_of, grain_logic::specs::Tables::at_version))]
-    fn knows(&self, kind: &str) -> bool {
-        knows_at(1, kind)
-    }
-
-    #[tactic(auto, unfolding(crate::specs::Kinds::logic_of, grain_logic::specs::Tables::at_version))]
-    fn is_read(&self, kind: &str, method: &str) -> bool {
-        reads_at(1, kind, method)
-    }
-
-    #[tactic(auto, unfolding(crate::specs::Kinds::logic_of, grain_logic::specs::Tables::at_version))]
-    fn empty(&self, alloc: Global, kind: &str) -> Result<StateBytes, AllocError> {
-        empty_at(1, alloc, kind)
-    }
-
-    #[tactic(auto, unfolding(crate::specs::Kinds::logic_of, grain_logic::specs::Tables::at_version))]
-    #[inline(always)]
-    fn plan<'a>(
-        &self,
-        alloc: Global,
-        bump: &'a Bump,
-        kind: &str,
-        method: &'a str,
-        state: Node<'a>,
-        args: Node<'a>,
-    ) -> Result<Plan<'a>, AllocError> {
-        plan_at(1, alloc, bump, kind, method, state, args)
-    }
-
-    #[tactic(auto, unfolding(crate::specs::Kinds::logic_of, grain_logic::specs::Tables::at_version))]
-    fn shortcut(&self, kind: &str, method: &str) -> Shortcut {
-        shortcut_at(1, kind, method)
-    }
-}
+pub const RestingKinds: RestingKinds = KindsAt;
 
 impl Version for Kinds {
-    ghost use Rattle.std.specs.Prelude.{refl};
-    ghost use Rattle.grain_kinds.specs.VersionNumbers.{one_is_version};
-
     ghost number = { 1 };
 
     fn number() -> u8 {
@@ -90,30 +53,42 @@ impl Version for Kinds {
 
     ghost named = { refl };
 
-    ghost may_be_named = { one_is_version };
+    ghost may_be_named = { is_version 1 refl };
 }
 
-impl GrainLogic for RestingKinds {
+impl Version for RestingKinds {
+    ghost number = { 2 };
+
+    fn number() -> u8 {
+        2
+    }
+
+    ghost named = { refl };
+
+    ghost may_be_named = { is_version 2 refl };
+}
+
+impl<const NUMBER: u8> GrainLogic for KindsAt<NUMBER> {
     ghost use Rattle.grain_kinds.specs.Kinds.{logic_of};
     ghost use Rattle.grain_kinds.specs.LawsOfKinds.{kinds_lawful};
 
-    ghost logic = { logic_of 2 };
+    ghost logic = { logic_of NUMBER };
 
-    ghost lawful = { kinds_lawful 2 };
+    ghost lawful = { kinds_lawful NUMBER };
 
     #[tactic(auto, unfolding(crate::specs::Kinds::logic_of, grain_logic::specs::Tables::at_version))]
     fn knows(&self, kind: &str) -> bool {
-        knows_at(2, kind)
+        knows_at(NUMBER, kind)
     }
 
     #[tactic(auto, unfolding(crate::specs::Kinds::logic_of, grain_logic::specs::Tables::at_version))]
     fn is_read(&self, kind: &str, method: &str) -> bool {
-        reads_at(2, kind, method)
+        reads_at(NUMBER, kind, method)
     }
 
     #[tactic(auto, unfolding(crate::specs::Kinds::logic_of, grain_logic::specs::Tables::at_version))]
     fn empty(&self, alloc: Global, kind: &str) -> Result<StateBytes, AllocError> {
-        empty_at(2, alloc, kind)
+        empty_at(NUMBER, alloc, kind)
     }
 
     #[tactic(auto, unfolding(crate::specs::Kinds::logic_of, grain_logic::specs::Tables::at_version))]
@@ -127,26 +102,11 @@ impl GrainLogic for RestingKinds {
         state: Node<'a>,
         args: Node<'a>,
     ) -> Result<Plan<'a>, AllocError> {
-        plan_at(2, alloc, bump, kind, method, state, args)
+        plan_at(NUMBER, alloc, bump, kind, method, state, args)
     }
 
     #[tactic(auto, unfolding(crate::specs::Kinds::logic_of, grain_logic::specs::Tables::at_version))]
     fn shortcut(&self, kind: &str, method: &str) -> Shortcut {
-        shortcut_at(2, kind, method)
+        shortcut_at(NUMBER, kind, method)
     }
-}
-
-impl Version for RestingKinds {
-    ghost use Rattle.std.specs.Prelude.{refl};
-    ghost use Rattle.grain_kinds.specs.VersionNumbers.{two_is_version};
-
-    ghost number = { 2 };
-
-    fn number() -> u8 {
-        2
-    }
-
-    ghost named = { refl };
-
-    ghost may_be_named = { two_is_version };
 }
