@@ -9,6 +9,7 @@ from typing import Callable
 
 from .answer import answer_line
 from .checkpoint import Checkpoint, CheckpointRefused, checkpoint_of, checkpoint_text, read_checkpoint
+from .kinds import Logic
 from .machine import Limits
 from .silo import Setup, Silo
 
@@ -48,7 +49,7 @@ sum dc21d3484373bcc4
 
 def kept() -> Checkpoint:
     """What is kept of a silo that was asked that, and delivered nothing."""
-    silo = Silo(Setup((("red", Limits(2, 4)), ("blue", Limits(1, 1))), ages=(("counter", 1000),)))
+    silo = Silo(Setup((("red", Limits(2, 4)), ("blue", Limits(1, 1))), ages=(("counter", 1000),), logic=Logic(2)))
     for line in ASKED:
         answer_line(silo, line.encode(), 0)
     return checkpoint_of(silo, "0123456789abcdef", 1000)

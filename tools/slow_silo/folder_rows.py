@@ -13,11 +13,11 @@ import tempfile
 from typing import Callable, Iterator, NamedTuple, Sequence
 from unittest import mock
 
-from . import data, logged
-from .checkpoint_rows import TEXT
+from . import checkpoint_rows, data, logged
 from .data import DiskFolder
 from .data_rows import ADD, FIRST, GET, MORE, SECOND, TWO
-from .folder_texts import ANSWER, NUMBER, WORDS, after, changed, lines_text, log_of, numbered_log, of, point, summed, words_said
+from .folder_texts import ANSWER, NUMBER, WORDS, after, at_newest, changed, lines_text, log_of, numbered_log, of, point, summed, words_said
+from .kinds import NEWEST
 from .lines import ReaderFailed
 from .program import Run, run_program
 from .row import Row
@@ -35,7 +35,7 @@ def refused(name: str, before: dict, status_: int, errors: str, words: Sequence[
 
 # ---- starts and ends
 
-FIRST_POINT = """\
+FIRST_POINT = at_newest("""\
 silo-checkpoint 1
 follows 0123456789abcdef
 sends 1000
@@ -50,7 +50,7 @@ age 900000
 tenant red 2 4
 close 0
 sum 3d624f2648a4ee39
-"""
+""")
 BEHIND = after(FIRST_POINT)
 BATCH = log_of(SECOND, number=of(FIRST_POINT))
 HEAD = log_of(number=of(FIRST_POINT))
@@ -125,6 +125,7 @@ BOTH: list[Row] = [*STARTS, *ACROSS]
 # ---- what is refused
 
 # the text of checkpoint_rows: a head, lines 1 to 4; two accounts, 5 to 8; three grains, 9 to 12; a journal, 13 to 20; and the sum
+TEXT = at_newest(checkpoint_rows.TEXT.decode())
 OF_TEXT = ["answer", "--data", "d", "--ages", "counter=1000", "red:2:4", "blue:1:1"]
 
 
@@ -145,7 +146,7 @@ class Faulty(NamedTuple):
 
 def faulty(name: str, line: int, *parts: str, end: str = "", is_taken: bool = False) -> Faulty:
     """A checkpoint with some parts, each followed by what replaces it; its sum is right."""
-    body = TEXT.decode()[:TEXT.decode().rindex("sum ")]
+    body = TEXT[:TEXT.rindex("sum ")]
     for old, new in zip(parts[::2], parts[1::2]):
         assert body.count(old) == 1
         body = body.replace(old, new)
@@ -180,7 +181,7 @@ FAULTY = [
     faulty("a version past the last", 10, UP, UP.replace(" 1 5", " 18446744073709551616 5")),
     faulty("bytes that are no state", 10, UP, UP.replace("0003\n", "03\n")),
     faulty("a journal of another form", 13, "silo-journal 3", "silo-journal 2", is_taken=True),
-    faulty("kinds that aren't known yet", 14, "kinds 2", "kinds 3"),
+    faulty("kinds that aren't known yet", 14, f"kinds {NEWEST}", f"kinds {NEWEST + 1}"),
     faulty("an age of nothing", 15, "age 900000", "age 0"),
     faulty("another tenant than that of the account", 18, "tenant blue 1 1", "tenant green 1 1", is_taken=True),
     faulty("tenants in another order", 17, "tenant red 2 4\ntenant blue 1 1\n", "tenant blue 1 1\ntenant red 2 4\n", is_taken=True),
@@ -195,16 +196,16 @@ FAULTY = [
     faulty("a line that no checkpoint has", 21, "close 0\n", "close 0\n\n"),
     faulty("a line behind the sum", 22, end="x\n"),
     faulty("bytes behind the sum", 22, end="x"),
-    Faulty("a wrong sum", 21, TEXT.decode().replace("clock 7", "clock 8")),
-    Faulty("of which the end is missing", 20, TEXT.decode()[:TEXT.decode().index("close 0")]),
-    Faulty("without its last byte", 21, TEXT.decode()[:-1]),
+    Faulty("a wrong sum", 21, TEXT.replace("clock 7", "clock 8")),
+    Faulty("of which the end is missing", 20, TEXT[:TEXT.index("close 0")]),
+    Faulty("without its last byte", 21, TEXT[:-1]),
 ]
 
 UP_AT_0 = UP.replace("1 5", "1 0")[:-1]
 KIND_POINT = changed(point(SAVED), NUMBER, UP_AT_0, UP_AT_0.replace("counter", "bell"))
 ROW_POINT = changed(point(SAVED), NUMBER, ROW[:-1], ROW[:-1].replace("counter", "clock"))
 COUNT_POINT = changed(FIRST_POINT, NUMBER, "account red 1 0", f"account red {2**63} 0")
-OLD_POINT = changed(FIRST_POINT, NUMBER, "kinds 2", "kinds 1")
+OLD_POINT = changed(FIRST_POINT, NUMBER, f"kinds {NEWEST}", "kinds 1")
 OTHER_LOG = log_of(FIRST, number=1)
 TENANTS = [*ANSWER, "blue:1:1"]
 POINT_REFUSED, OTHER_WORDS = "the checkpoint is refused", "the data have other words"

@@ -81,6 +81,12 @@ def summed(body: str) -> str:
     return body + "sum " + spelled(sum_after(0, body.encode())).decode() + "\n"
 
 
+def at_newest(text_: str) -> str:
+    """A checkpoint, or the head of a log, that was written by hand for version 2 of the kinds: for the newest, with its sum."""
+    body = text_[:-17].replace("\nkinds 2\n", f"\nkinds {NEWEST}\n")
+    return body + spelled(sum_after(0, body.removesuffix("sum ").encode())).decode() + "\n"
+
+
 def changed(checkpoint: str, follows: int, *parts: str) -> str:
     """A checkpoint that follows another log, with some parts, each followed by what replaces it."""
     body = checkpoint[:checkpoint.rindex("sum ")]

@@ -9,7 +9,7 @@ from .checkpoint import checkpoint_of, checkpoint_text, read_checkpoint
 from .cut_rows import Story, damaged, holds, is_refused, lived_in_memory
 from .data_rows import ADD, FIRST, GET, MORE, GoesOn
 from .folder_rows import JOINS, OTHER_WORDS, POINT_REFUSED, SENT
-from .folder_texts import NUMBER, after, changed, left_by, lines_text, log_of, of, point, summed, words_said
+from .folder_texts import NUMBER, after, at_newest, changed, left_by, lines_text, log_of, of, point, summed, words_said
 from .log import spelled
 from .program import run_program
 from .receipts import MAX_BYTES, MAX_RECEIPTS
@@ -191,7 +191,7 @@ FORMS = [
 
 # ---- starts
 
-ONE_POINT = """\
+ONE_POINT = at_newest("""\
 silo-checkpoint 2
 follows 0123456789abcdef
 sends 1000
@@ -213,8 +213,8 @@ age 900000
 tenant red 2 4
 close 0
 sum 9c11fd60c68c88df
-"""
-ONE_LOG = """\
+""")
+ONE_LOG = at_newest("""\
 silo-log 2
 kinds 2
 sends 1000
@@ -224,7 +224,7 @@ operator 0
 age 900000
 tenant red 2 4
 of 0123456789abcdef 74c5898311a950a7
-"""
+""")
 # what leads to this checkpoint, and what it is told
 ONE_LINES = (once(ADD) + once(MORE, seen=1) + once(call(4, A, "fly")) + once(call(9, "what", "get", None, OTHER))
              + saw(call(1, "x", "", None, OTHER), 9))

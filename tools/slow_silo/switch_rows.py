@@ -15,11 +15,10 @@ from unittest import mock
 
 from . import logged
 from .checkpoint import checkpoint_text, read_checkpoint, sum_of
-from .checkpoint_rows import TEXT
 from .data import DiskFolder
 from .data_rows import ADD, FIRST, GET, MORE, SECOND, TWO
 from .folder_rows import BATCH, BEHIND, BOTH as OF_BOTH_FORMS, FAULTY, FIRST_POINT, HEAD, JOINS, KIND_POINT, OF_TEXT, OLD_POINT, OTHER_LOG
-from .folder_rows import ROW, ROW_POINT, SAVED, SENT, STALE, WAITING as AT_ONCE
+from .folder_rows import ROW, ROW_POINT, SAVED, SENT, STALE, TEXT, WAITING as AT_ONCE
 from .folder_texts import KEPT, NUMBER, WORDS, after, changed, lines_text, log_of, of, point, setup_and_most, words_said
 from .log import cut_head, head_with, spelled
 from .logged import text_of
@@ -161,7 +160,7 @@ LISTED = [
     Row("a log isn't read", ["rows", "d"], [], [], files={"d/log": TWO}),
     Row("nor is a folder made", ["rows", "d"], [], []),
     Row("the rows of a checkpoint that is refused", ["rows", "d"], [], [], 4, "silo: checkpoint line 21 is refused",
-        {"d/checkpoint": TEXT.decode().replace("clock 7", "clock 8")}),
+        {"d/checkpoint": TEXT.replace("clock 7", "clock 8")}),
     Row("no folder", ["rows"], [], [], 2, "error: DIR is missing"),
     Row("no tenant", ["rows", "d", "Red"], [], [], 2, "error: no tenant"),
 ]

@@ -58,8 +58,8 @@ wide | sheet/red:a | 06 00000001 00000001 'a 04 0003ffea 78*262122 | put | {"nam
 static SENDING: &str =
     "asked | relay/red:a | [\"counter/red:b\",\"counter/red:c\",\"counter/red:d\",\"counter/red:e\"] | send | {\"args\":5,\"method\":\"add\"} | relay/red:a;None;counter/red:b;add;counter/red:c;add;counter/red:d;add;counter/red:e;add";
 
-/// Turns that say that the activation rests or stays, and others beside them.
-static RESTING: &str = r#"
+/// Turns by the newest version: some of its methods say that the activation rests or stays.
+static NEWEST: &str = r#"
 # The answer or the fault, the state, which is kept, and what is said of the activation.
 turn | counter/red:a | 2 | rest | null | null;2;Rest
 turn | sheet/red:a | {"b":true} | rest | null | null;{"b":true};Rest
@@ -320,16 +320,12 @@ fn turns_are_planned(rt: HostRuntime) -> Result<(), Fail> {
 }
 
 /// What a turn results in, and what it says of the activation.
-fn put_kept(
-    alloc: Global,
-    turn: &FinishedTurn<RestingKinds>,
-    out: &mut String,
-) -> Result<(), Fail> {
+fn put_kept(alloc: Global, turn: &FinishedTurn<NewestKinds>, out: &mut String) -> Result<(), Fail> {
     put_turn(alloc, turn, out)?;
     show(out, turn.keep())
 }
 
-impl Subject for RestingKinds {
+impl Subject for NewestKinds {
     fn answer(
         &mut self,
         alloc: Global,
@@ -343,8 +339,8 @@ impl Subject for RestingKinds {
 }
 
 #[test]
-fn activations_rest_and_stay(rt: HostRuntime) -> Result<(), Fail> {
-    hold(rt.alloc(), &mut RestingKinds, RESTING)
+fn the_newest_version_answers_or_refuses(rt: HostRuntime) -> Result<(), Fail> {
+    hold(rt.alloc(), &mut NewestKinds, NEWEST)
 }
 
 /// What logics and messages say with no turn.
