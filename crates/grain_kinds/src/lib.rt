@@ -18,4 +18,4 @@ pub use grain_logic::{
     FinishedTurn, GrainLogic, Keep, MAX_STAY_MILLISECONDS, MethodFault, OpenedTurn, OwnedPlan,
     Plan, Send, StoreCall, plan_turn, run_turn, state_of,
 };
-pub use versions::{Kinds, KindsAt, RestingKinds, RestingKinds as NewestKinds, Version};
+pub use versions::{Kinds, KindsAt, NewestKinds, RestingKinds, Version};

@@ -6,6 +6,7 @@ ghost use Rattle.grain_kinds.specs.VersionNumbers.{is_version};
 use crate::kinds::{empty_at, knows_at, plan_at, reads_at, shortcut_at};
 use bumpalo::Bump;
 use grain_logic::{GrainLogic, Plan, Shortcut};
+use logic_versions::NEWEST;
 use request_codec::StateBytes;
 use std::alloc::{AllocError, Global};
 use turn_arena::Node;
@@ -43,6 +44,11 @@ pub const Kinds: Kinds = KindsAt;
 pub type RestingKinds = KindsAt<2>;
 
 pub const RestingKinds: RestingKinds = KindsAt;
+
+/// The newest, which the program runs.
+pub type NewestKinds = KindsAt<NEWEST>;
+
+pub const NewestKinds: NewestKinds = KindsAt;
 
 impl Version for Kinds {
     ghost number = { 1 };

@@ -7,9 +7,12 @@
 ghost use Rattle.std.specs.Prelude.{◌≡◌};
 ghost use Rattle.logic_versions.specs.Versions.{newest};
 
+/// The number of the newest version.
+pub const NEWEST: u8 = 2;
+
 /// The newest version: that of the logic that the program runs.
 pub fn newest() -> u8
     ensures { result ≡ newest }
 {
-    2
+    NEWEST
 }
