@@ -1,4 +1,3 @@
-pub mod Standing
 pub mod Reading
 pub mod Shortcuts
 pub mod Fields
