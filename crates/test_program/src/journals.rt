@@ -1,6 +1,9 @@
 //! The journal that is kept, audited and migrated: statuses, texts, and what stands in the file.
 
 use crate::runs::{file_of, left_by};
+use logic_versions::newest;
+use silo_program::MemoryFile;
+use std::alloc::Global;
 use std::random::RandomSource;
 use std::sync::Wait;
 use std::test::Fail;
@@ -53,6 +56,25 @@ const AGED: &str = "silo-journal 3\nkinds 2\nage 900000\nkind sheet 9\ntenant re
 /// The journal of a counter that is asked to rest, and that goes then.
 const RESTED: &str =
     "silo-journal 3\nkinds 2\nage 900000\ntenant red 2 4\ncall red/c1 1 counter/red:a 02000000047265737400\nactivate counter/red:a\nload counter/red:a ok\nbegin counter/red:a\nend counter/red:a 1\nreply red/c1 1 ok 00\nclose 5\n";
+
+/// The text, with the number of the newest version in the place of the second's.
+fn of_newest(alloc: Global, text: &str) -> Result<String, Fail> {
+    let newest = newest();
+    let line = format!(in alloc; "kinds {newest}\n")?;
+    Ok(text.replace(alloc, "kinds 2\n", line.as_str())?)
+}
+
+/// Whether the bytes are that text.
+fn are_text(alloc: Global, bytes: &[u8], text: &str) -> Result<bool, Fail> {
+    let wanted = of_newest(alloc, text)?;
+    Ok(bytes == wanted.as_bytes())
+}
+
+/// A file at `j` that has that text.
+fn file_of_newest(alloc: Global, text: &str) -> Result<MemoryFile, Fail> {
+    let text = of_newest(alloc, text)?;
+    file_of(alloc, text.as_str())
+}
 
 /// A run of the program: its words, with the program's name first and a space between each two; the input; and what the file at
 /// `j` has before it. Then its status, and what the file, the output and the errors have after it.
@@ -295,14 +317,14 @@ fn leaves<H: AllocGlobal + RandomSource + Threads + Wait + Sync>(
     run: &Run,
 ) -> Result<bool, Fail> {
     let (words, input, before, status, after, told, failed) = *run;
-    let mut files = file_of(rt.alloc(), before)?;
+    let alloc = rt.alloc();
+    let mut files = file_of_newest(alloc, before)?;
     let left = left_by(rt, words, input, &mut files)?;
-    let same = left.status == status
-        && files.bytes.as_slice() == after.as_bytes()
-        && left.output.as_slice() == told.as_bytes()
-        && left.errors.as_slice() == failed.as_bytes();
-    drop(left);
-    Ok(same)
+    let same = left.status == status && left.errors.as_slice() == failed.as_bytes();
+    Ok(
+        same && are_text(alloc, files.bytes.as_slice(), after)?
+            && are_text(alloc, left.output.as_slice(), told)?,
+    )
 }
 
 #[test]
