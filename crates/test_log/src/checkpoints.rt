@@ -40,40 +40,67 @@ fn is_none(alloc: Global, bytes: &[u8]) -> Result<bool, Fail> {
     Ok(read(alloc, bytes)?.is_none())
 }
 
-#[test]
-fn a_checkpoint_is_read_and_written(rt: HostRuntime) -> Result<(), Fail> {
-    let alloc = rt.alloc();
-    let Some(checkpoint) = read(alloc, TEXT.as_bytes())? else {
-        return Err(Fail::from("it isn't read"));
-    };
+fn has_numbers(checkpoint: &Checkpoint<'_>) -> bool {
     let kept = &checkpoint.kept;
     let sizes = (kept.accounts.len(), kept.grains.len());
-    holds(
-        "its numbers",
-        sizes == (2, 3) && checkpoint.sends == 1_000 && kept.clock.get() == 7,
-    )?;
-    let text = checkpoint_of(alloc, &checkpoint.parts())?;
-    same(text.as_slice(), TEXT)
+    sizes == (2, 3) && checkpoint.sends == 1_000 && kept.clock.get() == 7
+}
+
+fn written(alloc: Global, checkpoint: &Checkpoint<'_>) -> Result<Vec<u8>, AllocError> {
+    checkpoint_of(alloc, &checkpoint.parts())
+}
+
+/// A checkpoint has the numbers of the text above, and is written so.
+fn is_this(alloc: Global, checkpoint: &Checkpoint<'_>) -> Result<(), Fail> {
+    holds("its numbers", has_numbers(checkpoint))?;
+    same(&written(alloc, checkpoint)?, TEXT)
 }
 
 #[test]
-fn a_cut_checkpoint_is_none(rt: HostRuntime) -> Result<(), Fail> {
-    let alloc = rt.alloc();
-    for end in 0..TEXT.len() {
-        holds("cut", is_none(alloc, &TEXT.as_bytes()[..end])?)?;
+fn a_checkpoint_is_read_and_written(rt: HostRuntime) -> Result<(), Fail> {
+    match read(rt.alloc(), TEXT.as_bytes())? {
+        Some(checkpoint) => {
+            let told = is_this(rt.alloc(), &checkpoint);
+            drop(checkpoint);
+            told
+        }
+        None => Err(Fail::from("it isn't read")),
+    }
+}
+
+/// Each part of a text from its first byte on is none.
+fn cuts_are_none(alloc: Global, text: &[u8]) -> Result<(), Fail> {
+    for end in 0..text.len() {
+        holds("cut", is_none(alloc, &text[..end])?)?;
     }
     Ok(())
 }
 
 #[test]
+fn a_cut_checkpoint_is_none(rt: HostRuntime) -> Result<(), Fail> {
+    cuts_are_none(rt.alloc(), TEXT.as_bytes())
+}
+
+/// The text with another byte at a place.
+fn changed(alloc: Global, text: &[u8], place: usize) -> Result<Vec<u8>, Fail> {
+    let mut bytes = Vec::from_slice(alloc, text)?;
+    if let Some(byte) = bytes.get_mut(place) {
+        *byte ^= 1;
+    }
+    Ok(bytes)
+}
+
+fn is_none_changed(alloc: Global, text: &[u8], place: usize) -> Result<bool, Fail> {
+    is_none(alloc, &changed(alloc, text, place)?)
+}
+
+#[test]
 fn a_checkpoint_with_a_changed_byte_is_none(rt: HostRuntime) -> Result<(), Fail> {
-    let alloc = rt.alloc();
     for place in 0..TEXT.len() {
-        let mut bytes = Vec::from_slice(alloc, TEXT.as_bytes())?;
-        if let Some(byte) = bytes.get_mut(place) {
-            *byte ^= 1;
-        }
-        holds("changed", is_none(alloc, bytes.as_slice())?)?;
+        holds(
+            "changed",
+            is_none_changed(rt.alloc(), TEXT.as_bytes(), place)?,
+        )?;
     }
     Ok(())
 }
