@@ -3,6 +3,7 @@
 
 use grain_id::HashSeed;
 use grain_kinds::Kinds;
+use grain_logic::GrainLogic;
 use grain_storage::{FusedStorage, MemoryStorage};
 use line_answer::{AnsweringSilo, Input, LineFault, Output, answer_lines};
 use silo_core::{Setup, Silo};
@@ -23,11 +24,12 @@ fn setup(alloc: Global, fails_at: u64) -> Result<Setup<FusedStorage, Kinds>, Fai
     setup_over(alloc, &["red", "blue"], 3, ages, storage, Kinds)
 }
 
-fn opened(
+/// A silo of any logic: the one that is named would stand in the goals.
+fn opened<L: GrainLogic + Drop>(
     alloc: Global,
-    setup: Setup<FusedStorage, Kinds>,
+    setup: Setup<FusedStorage, L>,
     seed: Option<u64>,
-) -> Result<TestedSilo, AllocError> {
+) -> Result<AnsweringSilo<FusedStorage, L>, AllocError> {
     match seed {
         Some(seed) => AnsweringSilo::seeded(alloc, setup, HashSeed::new(seed)),
         None => AnsweringSilo::new(alloc, setup),
