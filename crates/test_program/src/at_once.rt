@@ -2,7 +2,7 @@
 
 use crate::runs::{file_of, words_of};
 use grain_id::{GrainId, Tenant};
-use silo_program::{Input, Output, answer};
+use silo_program::{Input, MemoryFile, Output, answer};
 use std::random::RandomSource;
 use std::sync::Wait;
 use std::sync::atomic::{AtomicBool, AtomicU64, Ordering};
@@ -67,7 +67,7 @@ impl AuditGate for Meeting {
 }
 
 /// Four clients, each of whom asks a counter of its own.
-const CALLS: &str = concat!(
+static CALLS: &str = concat!(
     r#"{"from":"red/c1","id":1,"op":"call","grain":"counter/red:a","method":"get","args":null}"#,
     "\n",
     r#"{"from":"red/c2","id":1,"op":"call","grain":"counter/red:b","method":"get","args":null}"#,
@@ -79,8 +79,31 @@ const CALLS: &str = concat!(
 );
 
 /// The journal of five tenants who did nothing.
-const QUIET: &str =
+static QUIET: &str =
     "silo-journal 1\nage 1\ntenant a 1 1\ntenant b 1 1\ntenant c 1 1\ntenant d 1 1\ntenant e 1 1\nclose 0\n";
+
+/// Runs the program on the calls: whether it fails.
+fn fails<H: AllocGlobal + RandomSource + Threads + Wait + Sync>(
+    rt: &H,
+    words: &[String],
+    files: &mut MemoryFile,
+    output: &mut Output<Vec<u8>>,
+    meeting: &Meeting,
+) -> Result<bool, Fail> {
+    let mut input = Input::new(rt.alloc(), CALLS.as_bytes())?;
+    Ok(answer(rt, words, files, &mut input, output, meeting, meeting).is_err())
+}
+
+/// The same over the journal.
+fn fails_over<H: AllocGlobal + RandomSource + Threads + Wait + Sync>(
+    rt: &H,
+    words: &[String],
+    meeting: &Meeting,
+) -> Result<bool, Fail> {
+    let mut files = file_of(rt.alloc(), QUIET)?;
+    let mut output = Output::new(Vec::new(rt.alloc()));
+    fails(rt, words, &mut files, &mut output, meeting)
+}
 
 /// Runs the program with these words, and returns whether as many turns or tenants as the meeting wants are at the gate
 /// at once.
@@ -89,21 +112,8 @@ fn meet<H: AllocGlobal + RandomSource + Threads + Wait + Sync>(
     words: &str,
     meeting: &Meeting,
 ) -> Result<bool, Fail> {
-    let alloc = rt.alloc();
-    let words = words_of(alloc, words)?;
-    let mut files = file_of(alloc, QUIET)?;
-    let mut input = Input::new(alloc, CALLS.as_bytes())?;
-    let mut output = Output::new(Vec::new(alloc));
-    let ended = answer(
-        rt,
-        &words,
-        &mut files,
-        &mut input,
-        &mut output,
-        meeting,
-        meeting,
-    );
-    if ended.is_err() {
+    let words = words_of(rt.alloc(), words)?;
+    if fails_over(rt, &words, meeting)? {
         return Err(Fail::from("the program failed: no memory, or no thread"));
     }
     Ok(meeting.was_held())

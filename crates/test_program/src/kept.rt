@@ -83,50 +83,77 @@ fn folder_of(alloc: Global, begun: Option<Vec<u8>>) -> Folder {
     }
 }
 
-/// What the log has: what it was begun with, and what was written after that.
-fn bytes_in(alloc: Global, folder: &Folder) -> Result<Vec<u8>, Fail> {
-    let mut bytes = Vec::new(alloc);
-    if let Some(begun) = &folder.log.begun {
-        bytes.extend_from_slice(begun.as_slice())?;
-    }
-    for did in folder.log.did.iter() {
-        if let Did::Wrote(more) = did {
+fn put_written(did: &[Did], bytes: &mut Vec<u8>) -> Result<(), Fail> {
+    for one in did {
+        if let Did::Wrote(more) = one {
             bytes.extend_from_slice(more.as_slice())?;
         }
     }
+    Ok(())
+}
+
+fn put_bytes(folder: &Folder, bytes: &mut Vec<u8>) -> Result<(), Fail> {
+    if let Some(begun) = &folder.log.begun {
+        bytes.extend_from_slice(begun.as_slice())?;
+    }
+    put_written(folder.log.did.as_slice(), bytes)
+}
+
+/// What the log has: what it was begun with, and what was written after that.
+fn bytes_in(alloc: Global, folder: &Folder) -> Result<Vec<u8>, Fail> {
+    let mut bytes = Vec::new(alloc);
+    put_bytes(folder, &mut bytes)?;
     Ok(bytes)
 }
 
-const ADD: &str = concat!(
+static ADD: &str = concat!(
     r#"{"op":"call","from":"red/c1","id":1,"grain":"counter/red:a","method":"add","args":{"by":3}}"#,
     "\n"
 );
 
-const GET: &str = concat!(
+static GET: &str = concat!(
     r#"{"op":"call","from":"red/c1","id":2,"grain":"counter/red:a","method":"get"}"#,
     "\n"
 );
 
-/// Asks a counter to add 3 over a new folder, and then what the words and the line say over what the first run left: a checkpoint, and
-/// a log that goes on from it without a batch.
-fn again<H: AllocGlobal + RandomSource + Threads + Wait + Sync>(
+fn status_of(left: Result<Left, Fail>) -> Result<u8, Fail> {
+    Ok(left?.status)
+}
+
+/// Asks a counter to add 3 over a new folder: a checkpoint takes the log's place.
+fn first<H: AllocGlobal + RandomSource + Threads + Wait + Sync>(
     rt: &H,
-    words: &str,
-    line: &str,
-) -> Result<Left, Fail> {
-    let alloc = rt.alloc();
-    let mut folder = folder_of(alloc, None);
-    let first = left_by(rt, "silo answer --data d red:2:4", ADD, &mut folder)?;
-    if first.status != 0 {
+    folder: &mut Folder,
+) -> Result<(), Fail> {
+    let left = left_by(rt, "silo answer --data d red:2:4", ADD, folder);
+    if status_of(left)? != 0 {
         return Err(Fail::from("the first run failed"));
     }
     if !folder.log.did.is_empty() {
         return Err(Fail::from("no checkpoint took the log's place"));
     }
-    let bytes = bytes_in(alloc, &folder)?;
-    let point = folder.log.point.take();
-    let mut folder = folder_of(alloc, Some(bytes));
-    folder.log.point = point;
+    Ok(())
+}
+
+/// What the first run left: a checkpoint, and a log that goes on from it without a batch.
+fn left_by_first<H: AllocGlobal + RandomSource + Threads + Wait + Sync>(
+    rt: &H,
+) -> Result<Folder, Fail> {
+    let mut folder = folder_of(rt.alloc(), None);
+    first(rt, &mut folder)?;
+    let bytes = bytes_in(rt.alloc(), &folder)?;
+    let mut next = folder_of(rt.alloc(), Some(bytes));
+    next.log.point = folder.log.point.take();
+    Ok(next)
+}
+
+/// Asks a counter to add 3 over a new folder, and then what the words and the line say over what the first run left.
+fn again<H: AllocGlobal + RandomSource + Threads + Wait + Sync>(
+    rt: &H,
+    words: &str,
+    line: &str,
+) -> Result<Left, Fail> {
+    let mut folder = left_by_first(rt)?;
     left_by(rt, words, line, &mut folder)
 }
 

@@ -60,6 +60,36 @@ pub fn file_of(alloc: Global, text: &str) -> Result<MemoryFile, Fail> {
     Ok(MemoryFile { path, bytes })
 }
 
+/// Runs the program, which has clauses: its status.
+fn run<H: AllocGlobal + RandomSource + Threads + Wait + Sync, F: WholeFiles + DataFiles>(
+    rt: &H,
+    words: &[String],
+    input: &str,
+    files: &mut F,
+    output: &mut Output<HoldingWriter>,
+    errors: &mut Output<HoldingWriter>,
+) -> Result<u8, Fail> {
+    let mut input = Input::new(rt.alloc(), input.as_bytes())?;
+    Ok(run_program(rt, words, files, &mut input, output, errors))
+}
+
+/// What a run leaves.
+fn left_of<H: AllocGlobal + RandomSource + Threads + Wait + Sync, F: WholeFiles + DataFiles>(
+    rt: &H,
+    words: &[String],
+    input: &str,
+    files: &mut F,
+) -> Result<Left, Fail> {
+    let mut output = holding(rt.alloc());
+    let mut errors = holding(rt.alloc());
+    let status = run(rt, words, input, files, &mut output, &mut errors)?;
+    Ok(Left {
+        status,
+        output: output.writer.out,
+        errors: errors.writer.out,
+    })
+}
+
 /// Runs the program on these words, this input and these files.
 pub fn left_by<H: AllocGlobal + RandomSource + Threads + Wait + Sync, F: WholeFiles + DataFiles>(
     rt: &H,
@@ -67,15 +97,6 @@ pub fn left_by<H: AllocGlobal + RandomSource + Threads + Wait + Sync, F: WholeFi
     input: &str,
     files: &mut F,
 ) -> Result<Left, Fail> {
-    let alloc = rt.alloc();
-    let words = words_of(alloc, words)?;
-    let mut input = Input::new(alloc, input.as_bytes())?;
-    let mut output = holding(alloc);
-    let mut errors = holding(alloc);
-    let status = run_program(rt, &words, files, &mut input, &mut output, &mut errors);
-    Ok(Left {
-        status,
-        output: output.writer.out,
-        errors: errors.writer.out,
-    })
+    let words = words_of(rt.alloc(), words)?;
+    left_of(rt, &words, input, files)
 }

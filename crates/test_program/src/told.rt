@@ -8,7 +8,7 @@ use std::thread::Threads;
 
 /// A counter is asked to add 3; an empty line; what is no request; a step that serving takes none of; and a method that
 /// there isn't.
-const LINES: &str = concat!(
+static LINES: &str = concat!(
     r#"{"op":"call","from":"red/c1","id":1,"grain":"counter/red:a","method":"add","args":{"by":3}}"#,
     "\n\nx\n",
     r#"{"op":"activate","grain":"counter/red:a"}"#,
@@ -18,7 +18,7 @@ const LINES: &str = concat!(
 );
 
 /// What they are answered.
-const ANSWERS: &str = concat!(
+static ANSWERS: &str = concat!(
     r#"{"error":10,"text":"line is not a request"}"#,
     "\n",
     r#"{"error":10,"text":"line is not a request"}"#,
@@ -30,15 +30,15 @@ const ANSWERS: &str = concat!(
 );
 
 /// Which of them made no step.
-const REASONS: &str =
+static REASONS: &str =
     "silo: line 3: line is not a request\nsilo: line 4: step is not one of silo serve\n";
 
 /// How many there are of what.
-const COUNTS: &str =
+static COUNTS: &str =
     "silo: lines: 5\nsilo: answers: 1\nsilo: refusals 10: 2\nsilo: refusals 60: 1\nsilo: steps: 8\n";
 
 /// Both.
-const BOTH: &str = concat!(
+static BOTH: &str = concat!(
     "silo: line 3: line is not a request\nsilo: line 4: step is not one of silo serve\n",
     "silo: lines: 5\nsilo: answers: 1\nsilo: refusals 10: 2\nsilo: refusals 60: 1\nsilo: steps: 8\n"
 );

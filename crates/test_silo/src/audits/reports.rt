@@ -23,24 +23,21 @@ use test_helpers::setups::setup_of;
 use test_helpers::verdicts::holds;
 
 /// The journal of one tenant whose counter is asked to add 3.
-const WORKED: &str =
+static WORKED: &str =
     "silo-journal 1\nage 900000\ntenant red 2 4\ncall red/c1 1 counter/red:a 01000000036164640600000001000000026279030000000000000003\nactivate counter/red:a\nload counter/red:a ok\nbegin counter/red:a\nend counter/red:a 1\nreply red/c1 1 ok 030000000000000003\nclose 5\n";
+
+static WORKED_REPORT: &str = "tenant red: 5 steps, 1 replies, 0 rows\n";
 
 #[test]
 fn a_true_journal_has_no_difference(rt: HostRuntime) -> Result<(), Fail> {
-    reports_under(
-        rt.alloc(),
-        WORKED,
-        Kinds,
-        "tenant red: 5 steps, 1 replies, 0 rows\n",
-    )
+    reports_under(rt.alloc(), WORKED, Kinds, WORKED_REPORT)
 }
 
 /// A journal of three tenants, of whom the table has one, and its report.
-const OTHERS: &str =
+static OTHERS: &str =
     "silo-journal 1\nage 1\ntenant red 1 1\nstatus blue/c1 1\ntick 5\nreply blue/c1 1 no 21 tenant blue is unknown\nrow counter/amber:a 7 -\nclose 2\n";
 
-const OTHERS_REPORT: &str =
+static OTHERS_REPORT: &str =
     "tenant red: 1 steps, 0 replies, 0 rows\ntenant amber: row counter/amber:a differs\ntenant blue: 2 steps, 1 replies, 0 rows\n";
 
 #[test]
@@ -69,7 +66,7 @@ fn the_report_is_the_same_for_every_number_of_workers(rt: HostRuntime) -> Result
 }
 
 /// Two tenants that did nothing.
-const QUIET: &str = "silo-journal 1\nage 1\ntenant red 1 1\ntenant blue 1 1\nclose 0\n";
+static QUIET: &str = "silo-journal 1\nage 1\ntenant red 1 1\ntenant blue 1 1\nclose 0\n";
 
 #[test]
 fn two_tenants_are_audited_at_once(rt: HostRuntime) -> Result<(), Fail> {
@@ -78,19 +75,27 @@ fn two_tenants_are_audited_at_once(rt: HostRuntime) -> Result<(), Fail> {
     holds(seen.text.as_str().lines().count() == 2 && !gate.meeting.was_missed())
 }
 
+/// A tick that goes back.
+static GOES_BACK: &str =
+    "silo-journal 1\nage 1\ntenant red 1 1\ntick 5\ntick 4\nbegin counter/red:a\nclose 3\n";
+
+static GOES_BACK_REPORT: &str = "tenant red: step 2 differs\n";
+
 #[test]
 fn the_first_step_that_is_not_done_is_told(rt: HostRuntime) -> Result<(), Fail> {
-    let text =
-        "silo-journal 1\nage 1\ntenant red 1 1\ntick 5\ntick 4\nbegin counter/red:a\nclose 3\n";
-    reports_under(rt.alloc(), text, Kinds, "tenant red: step 2 differs\n")
+    reports_under(rt.alloc(), GOES_BACK, Kinds, GOES_BACK_REPORT)
 }
+
+/// A reply of another code.
+static CHANGED: &str =
+    "silo-journal 1\nage 1\ntenant red 1 1\nstatus blue/c1 1\nreply blue/c1 1 no 22 tenant blue is unknown\nclose 1\n";
+
+static CHANGED_REPORT: &str =
+    "tenant red: 0 steps, 0 replies, 0 rows\ntenant blue: reply 1 differs\n";
 
 #[test]
 fn a_changed_reply_is_told(rt: HostRuntime) -> Result<(), Fail> {
-    let text =
-        "silo-journal 1\nage 1\ntenant red 1 1\nstatus blue/c1 1\nreply blue/c1 1 no 22 tenant blue is unknown\nclose 1\n";
-    let wanted = "tenant red: 0 steps, 0 replies, 0 rows\ntenant blue: reply 1 differs\n";
-    reports_under(rt.alloc(), text, Kinds, wanted)
+    reports_under(rt.alloc(), CHANGED, Kinds, CHANGED_REPORT)
 }
 
 fn take<L: GrainLogic>(
