@@ -24,9 +24,9 @@ from functools import partial
 from typing import Callable, NamedTuple, Optional
 
 from . import codes
-from .journal import (LAST_FORM, MAX_NUMBER, MAX_TENANTS, Reader, RefusedAt, caller, fits, grain, journal_of, journal_text, message,
-                      number, read_age, read_journal, read_kind, read_kinds, read_reply, read_row, read_tenant, reply_fields, split,
-                      state)
+from .journal import (LAST_FORM, MAX_NUMBER, MAX_TENANTS, MOST_KINDS, Reader, RefusedAt, caller, fits, grain, journal_of, journal_text,
+                      message, number, read_age, read_journal, read_kind, read_kinds, read_reply, read_row, read_tenant, reply_fields,
+                      split, state)
 from .kinds import Logic, Send
 from .log import DIGITS, more_lines, spelled as sum_spelled, sum_after
 from .machine import READY, Entry
@@ -262,7 +262,7 @@ def take_journal(reader: Reader, names: list[str]) -> bytes:
     """The text of a journal of the last form, of no step and no reply, with these tenants."""
     begin = reader.place
     reader.next(lambda line, _before: fits(line == f"silo-journal {LAST_FORM}"))
-    reader.next(read_kinds)
+    reader.next(partial(read_kinds, MOST_KINDS))
     reader.next(read_age)
     reader.all_that(read_kind)
     if len(reader.all_that(partial(read_named_tenant, names))) < len(names):
@@ -310,7 +310,7 @@ def sum_of(text: bytes) -> int:
 
 def own_setup(checkpoint: Checkpoint) -> Setup:
     """That of the silo that was left."""
-    journal = read_journal(checkpoint.journal)
+    journal = read_journal(checkpoint.journal, MOST_KINDS)
     more = checkpoint.room, checkpoint.replies, checkpoint.operator
     return Setup(journal.tenants, journal.age, journal.ages, journal.rows, (), Logic(journal.kinds), *more)
 

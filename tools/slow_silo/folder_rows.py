@@ -182,7 +182,7 @@ FAULTY = [
     faulty("a version past the last", 10, UP, UP.replace(" 1 5", " 18446744073709551616 5")),
     faulty("bytes that are no state", 10, UP, UP.replace("0003\n", "03\n")),
     faulty("a journal of another form", 13, "silo-journal 3", "silo-journal 2", is_taken=True),
-    faulty("kinds that aren't known yet", 14, f"kinds {NEWEST}", f"kinds {NEWEST + 1}"),
+    faulty("kinds that have no number", 14, f"kinds {NEWEST}", "kinds 256"),
     faulty("an age of nothing", 15, "age 900000", "age 0"),
     faulty("another tenant than that of the account", 18, "tenant blue 1 1", "tenant green 1 1", is_taken=True),
     faulty("tenants in another order", 17, "tenant red 2 4\ntenant blue 1 1\n", "tenant blue 1 1\ntenant red 2 4\n", is_taken=True),
@@ -207,6 +207,7 @@ KIND_POINT = changed(point(SAVED), NUMBER, UP_AT_0, UP_AT_0.replace("counter", "
 ROW_POINT = changed(point(SAVED), NUMBER, ROW[:-1], ROW[:-1].replace("counter", "clock"))
 COUNT_POINT = changed(FIRST_POINT, NUMBER, "account red 1 0", f"account red {2**63} 0")
 OLD_POINT = changed(FIRST_POINT, NUMBER, f"kinds {NEWEST}", "kinds 1")
+NEW_POINT = changed(FIRST_POINT, NUMBER, f"kinds {NEWEST}", f"kinds {NEWEST + 1}")
 OTHER_LOG = log_of(FIRST, number=1)
 TENANTS = [*ANSWER, "blue:1:1"]
 POINT_REFUSED, OTHER_WORDS = "the checkpoint is refused", "the data have other words"
@@ -223,6 +224,7 @@ def beside(name: str, log: str, status_: int, errors: str, checkpoint: str = FIR
 REFUSED = [
     *(it.row(POINT_REFUSED) for it in FAULTY if not it.is_taken),
     other_words("the number of the kinds", ANSWER, after(OLD_POINT)),
+    other_words("a version of the kinds that there isn't yet", ANSWER, after(NEW_POINT)),
     other_words("the deliveries", [*ANSWER[:3], "--sends", "999", "red:2:4"]),
     other_words("the age", [*ANSWER[:3], "--age", "9", "red:2:4"]),
     other_words("an age of a kind", [*ANSWER[:3], "--ages", "sheet=5", "red:2:4"]),

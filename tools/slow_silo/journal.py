@@ -26,6 +26,8 @@ from .values import (OLD_MESSAGE_FORM, NotSpelled, read_message, read_old_messag
 
 FORMS = (1, 2, 3)
 LAST_FORM = 3
+# the versions of the logic may have numbers up to this
+MOST_KINDS = 255
 MAX_AGE = 86_400_000
 MAX_AGES = 64
 MAX_TENANTS = 1_000
@@ -298,10 +300,10 @@ def read_head(line: str, _before: list) -> int:
     return int(form)
 
 
-def read_kinds(line: str, _before: list) -> int:
+def read_kinds(most: int, line: str, _before: list) -> int:
     word, kinds = split(line, 2)
     fits(word == "kinds")
-    return number(kinds, 1, NEWEST)
+    return number(kinds, 1, most)
 
 
 def read_age(line: str, _before: list) -> int:
@@ -316,11 +318,11 @@ def read_kind(line: str, before: list) -> tuple[str, int]:
     return kind, number(age, 1, MAX_AGE)
 
 
-def read_journal(text: bytes) -> Journal:
-    """The journal, or RefusedAt."""
+def read_journal(text: bytes, most: int = NEWEST) -> Journal:
+    """The journal, of a version up to that one, or RefusedAt."""
     reader = Reader(text)
     form = reader.next(read_head)
-    kinds = 1 if form == 1 else reader.next(read_kinds)
+    kinds = 1 if form == 1 else reader.next(partial(read_kinds, most))
     age = reader.next(read_age)
     ages = [] if form == 1 else reader.all_that(read_kind)
     tenants = reader.all_that(read_tenant)

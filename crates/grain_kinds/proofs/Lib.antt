@@ -3,3 +3,4 @@ pub mod Shortcuts
 pub mod Fields
 pub mod Members
 pub mod KeepSame
+pub mod Newer

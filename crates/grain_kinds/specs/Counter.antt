@@ -4,10 +4,9 @@
 --   add      1       {"by": int}    the sum of the number and `by`, if it is one of 64 bits   that sum, otherwise OutOfRange
 --   get      1       null           kept    the number
 use Rattle.std.specs.Prelude.{List, ◌∷◌, pos, codes}
-use Rattle.request_codec.specs.Tree.{Tree, integer}
+use Rattle.request_codec.specs.Tree.{integer}
 use Rattle.grain_logic.specs.Adding.{adds_number}
 use Rattle.grain_logic.specs.Counters.{get_plan}
-use Rattle.grain_logic.specs.Logic.{Plan}
 use Rattle.grain_logic.specs.Shared.{for_shape, for_null, integer_field}
 use Rattle.grain_logic.specs.Tables.{Kind, Method, changes, reads}
 use Rattle.grain_kinds.specs.EveryKind.{every_kind}

@@ -1,7 +1,7 @@
 -- The plans of sheets keep the laws.
-use Rattle.std.proofs.Common.{◌≡◌, ℕ, ◌≤◌, Bool, true, false, List, Option, Some, None, Result, Ok, nat_cmp, ltb-false, refl, ap, sym}
+use Rattle.std.proofs.Common.{◌≡◌, ℕ, ◌≤◌, List, Option, Some, None, Result, Ok, nat_cmp, ltb-false, refl, ap}
 use Rattle.std.proofs.Common.{subst, arith}
-use Rattle.std.specs.Prelude.{◌||◌, IsTrue, nat_lt, codes, option_map, option_and_then}
+use Rattle.std.specs.Prelude.{IsTrue, nat_lt, codes, option_map, option_and_then}
 use Rattle.std.specs.Option.{unwrap_or}
 use Rattle.std.specs.Cmp.Lexicographic.{slice_cmp}
 use Rattle.std.specs.Ordering.{is_lt}

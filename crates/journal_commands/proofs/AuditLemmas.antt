@@ -7,7 +7,7 @@ use Rattle.std.proofs.KnownBytes.{Keeps-refl}
 use Rattle.command_parts.specs.declared.failure.ProgramFault.{ProgramFault}
 use Rattle.std.specs.Prelude.{String, string_bytes}
 use Rattle.std.specs.declared.alloc.Global.{Global}
-use Rattle.journal_text.specs.FirstFault.{IsFirstFault}
+use Rattle.tenant_audit.specs.Reading.{IsRefused}
 use Rattle.command_parts.specs.declared.failure.Cause.TheVariants as cause
 use Rattle.command_parts.specs.declared.files.FileFault.{FileFault}
 use Rattle.command_parts.specs.declared.files.FileFault.TheVariants as file
@@ -16,7 +16,7 @@ use Rattle.command_parts.specs.declared.failure.ProgramFault.TheVariants as faul
 -- the bytes are no journal's, or memory was refused
 module _ (may_hold : List ℕ → Type 0) (bytes : List ℕ) (held : may_hold bytes) (before : Option (List ℕ)) (Fails : ProgramFault → Type 0) (memory : Fails (fault.Failed cause.Memory))
     (refused : (text : String Global) → RefusesFile may_hold (string_bytes text) before before → Fails (fault.NoJournal text)) where
-  line_refused : (number : ℕ) (why : ProgramFault) → IsFirstFault bytes number → IsRefusalOf number why → Fails why
+  line_refused : (number : ℕ) (why : ProgramFault) → IsRefused bytes number → IsRefusalOf number why → Fails why
   line_refused number (fault.Failed why) first is = subst (λ (c : Cause). Fails (fault.Failed c)) (sym is) memory
   line_refused number (fault.Refused text) first none = absurd none
   line_refused number (fault.NoJournal text) first said = refused text (record { number = number; held = record { bytes = bytes; held = held; first = first }; said = said; kept = Keeps-refl before })

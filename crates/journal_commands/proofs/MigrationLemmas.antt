@@ -3,6 +3,10 @@ use Rattle.std.specs.Io.KnownBytes.{Appends}
 use Rattle.command_parts.specs.Streams.{BreaksOff}
 use Rattle.command_parts.specs.declared.failure.End.{End}
 use Rattle.std.proofs.Common.{Err, IfErr, IfOk, List, Ok, Option, Result, subst, sym, ℕ, ◌≡◌}
+use Rattle.std.specs.Prelude.{Vec}
+use Rattle.std.specs.declared.alloc.Global.{Global}
+use Rattle.journal_text.specs.JournalAnswers.{IsMigrated}
+use Rattle.tenant_audit.specs.Reading.{NamesNewer}
 use Rattle.journal_commands.specs.Migrating.{IsMigrationFault, MayMigrateTo, MigratesFile}
 use Rattle.command_parts.specs.declared.failure.ProgramFault.{ProgramFault}
 use Rattle.line_protocol.specs.declared.written.WriterCalls.{WriterCalls}
@@ -23,3 +27,9 @@ module _ (may_hold : List ℕ → Type 0) (text : List ℕ) (migrated : MayMigra
   breaks_off may_fail writing (Err why) is =
       subst (λ (w : ProgramFault). IsMigrationFault may_hold may_fail w before after writing) (sym is.0)
       (record { text = text; migrated = migrated; part = subst (λ (t : List ℕ). BreaksOff before after writing t) same is.1 })
+
+-- what the bytes of a file are migrated to
+pub migrated_to : (may_hold : List ℕ → Type 0) (bytes : List ℕ) (result : Result (Vec ℕ Global) ProgramFault) → may_hold bytes → IfOk result (λ text. IsMigrated bytes text.items) → IfOk result (λ _. NamesNewer bytes → ⊥)
+    → IfOk result (λ text. MayMigrateTo may_hold text.items)
+migrated_to may_hold bytes (Ok text) held is known = record { bytes = bytes; held = held; known = known; migrated = is }
+migrated_to may_hold bytes (Err why) held is known = tt

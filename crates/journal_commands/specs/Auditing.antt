@@ -4,11 +4,12 @@ use Rattle.std.specs.List.{list_any}
 use Rattle.std.specs.Option.{is_some}
 use Rattle.std.specs.Io.KnownBytes.{Appends, Keeps}
 use Rattle.line_protocol.specs.declared.written.WriterCalls.{WriterCalls}
-use Rattle.journal_text.specs.FirstFault.{IsFirstFault}
 use Rattle.journal_text.specs.JournalAnswers.{IsJournalText}
 use Rattle.journal_text.specs.Text.{History}
+use Rattle.logic_versions.specs.Versions.{IsVersion}
 use Rattle.grain_kinds.specs.Kinds.{logic_of}
 use Rattle.audit_model.specs.Report.{IsReport, TenantReport}
+use Rattle.tenant_audit.specs.Reading.{IsRefused}
 use Rattle.tenant_audit.specs.ReportText.{report_line}
 use Rattle.command_parts.specs.Status.{no_journal_text}
 use Rattle.command_parts.specs.Streams.{BreaksOff}
@@ -39,11 +40,12 @@ IsEndOf end.Differs reports = some_differs reports ≡ true
 
 -- ---- what a file may have
 
--- The file may have bytes that are the text of this journal, in one of its forms.
+-- The file may have bytes that are the text of this journal, in one of its forms, of a version of the logic that there is.
 pub record MayHoldJournal (may_hold : List ℕ → Type 0) (journal : History) : Type 0 where
   pub bytes : List ℕ
   pub held : may_hold bytes
   pub is : IsJournalText bytes journal
+  pub version : IsVersion journal.kinds
 
 -- The file may have a journal, on which the audit under the logic that it names reports this of each tenant.
 pub record AreReportsOf (may_hold : List ℕ → Type 0) (reports : List TenantReport) : Type 0 where
@@ -51,11 +53,11 @@ pub record AreReportsOf (may_hold : List ℕ → Type 0) (reports : List TenantR
   pub held : MayHoldJournal may_hold journal
   pub reported : IsReport (logic_of journal.kinds) journal reports
 
--- The file may have bytes that are no journal's, and the line of this number is the first at fault.
+-- The file may have bytes that are no journal's of a version that there is, and the line of this number is the first at fault.
 pub record MayHoldNoJournal (may_hold : List ℕ → Type 0) (number : ℕ) : Type 0 where
   pub bytes : List ℕ
   pub held : may_hold bytes
-  pub first : IsFirstFault bytes number
+  pub first : IsRefused bytes number
 
 -- ---- how an audit ends
 
@@ -111,7 +113,7 @@ IsRefusalOf number (fault.NoJournal text) = string_bytes text ≡ no_journal_tex
 
 -- why bytes are no journal: a line of them is refused, unless memory is
 abbrev pub IsReadingFault : List ℕ → ProgramFault → Type 0
-IsReadingFault bytes why = ((number : ℕ) × IsFirstFault bytes number × IsRefusalOf number why) ⊎ (why ≡ fault.Failed cause.Memory)
+IsReadingFault bytes why = ((number : ℕ) × IsRefused bytes number × IsRefusalOf number why) ⊎ (why ≡ fault.Failed cause.Memory)
 
 -- the text breaks off, or nothing was written for want of memory
 abbrev pub IsWritingCause : Cause → Option (List ℕ) → Option (List ℕ) → WriterCalls → List ℕ → Type 0

@@ -3,6 +3,7 @@ use Rattle.std.specs.Prelude.{ℕ, List, Option, string_bytes}
 use Rattle.std.specs.Io.KnownBytes.{Appends, Keeps}
 use Rattle.line_protocol.specs.declared.written.WriterCalls.{WriterCalls}
 use Rattle.journal_text.specs.JournalAnswers.{IsMigrated}
+use Rattle.tenant_audit.specs.Reading.{NamesNewer}
 use Rattle.journal_commands.specs.Auditing.{RefusesFile}
 use Rattle.command_parts.specs.Streams.{BreaksOff}
 use Rattle.command_parts.specs.declared.failure.Cause.{Cause}
@@ -10,11 +11,12 @@ use Rattle.command_parts.specs.declared.failure.Cause.TheVariants as cause
 use Rattle.command_parts.specs.declared.failure.ProgramFault.{ProgramFault}
 use Rattle.command_parts.specs.declared.failure.ProgramFault.TheVariants as fault
 
--- The file may have bytes that are the text of a journal, in one of its forms, and this is the text of the same journal in the form in
--- which journals are written.
+-- The file may have bytes that are the text of a journal, in one of its forms and of no newer version of the logic, and this is
+-- the text of the same journal in the form in which journals are written.
 pub record MayMigrateTo (may_hold : List ℕ → Type 0) (text : List ℕ) : Type 0 where
   pub bytes : List ℕ
   pub held : may_hold bytes
+  pub known : NamesNewer bytes → ⊥
   pub migrated : IsMigrated bytes text
 
 -- The file's journal was written in that form, and nothing else.

@@ -4,6 +4,7 @@ ghost use Rattle.std.specs.Prelude.{◌≡◌, false, ℕ, List, Option, IfOk, I
 ghost use Rattle.std.specs.Io.KnownBytes.{Appends};
 ghost use Rattle.line_protocol.specs.declared.written.WriterCalls.{WriterCalls};
 ghost use Rattle.journal_text.specs.JournalAnswers.{IsJournalText};
+ghost use Rattle.logic_versions.specs.Versions.{IsVersion};
 ghost use Rattle.grain_kinds.specs.Kinds.{logic_of};
 ghost use Rattle.audit_model.specs.Report.{IsReport};
 ghost use Rattle.journal_commands.specs.Auditing.{AuditsFile, IsAuditCause, IsAuditFault, IsEndOf, IsReadingFault, IsRefusalOf};
@@ -11,13 +12,15 @@ ghost use Rattle.journal_commands.specs.Auditing.{IsWritingCause, MayHoldJournal
 
 use command_parts::{Cause, End, FileFault, ProgramFault, WholeFiles, say};
 use grain_id::HashSeed;
-use journal_text::{Journal, JournalFault, read_journal};
 use line_protocol::Output;
 use std::alloc::Global;
 use std::io::Write;
 use std::sync::Wait;
 use std::thread::Threads;
-use tenant_audit::{AuditFault, AuditGate, Report, audit_seeded, has_difference, report_text};
+use tenant_audit::{
+    AuditFault, AuditGate, Journal, JournalFault, Report, audit_seeded, has_difference,
+    read_journal, report_text,
+};
 
 /// How many threads audit a journal.
 const AUDIT_WORKERS: usize = 4;
@@ -46,6 +49,7 @@ pub fn refuse_line(alloc: Global, number: usize) -> ProgramFault
 /// The journal whose text the bytes are.
 fn journal_in(alloc: Global, bytes: &[u8]) -> Result<Journal, ProgramFault>
     ensures journal { IfOk result (λ journal. IsJournalText bytes.now journal) }
+    ensures version { IfOk result (λ journal. IsVersion journal.kinds) }
     ensures fault { IfErr result (λ fault. IsReadingFault bytes.now fault) }
 {
     match read_journal(alloc, bytes) {

@@ -4,20 +4,22 @@ ghost use Rattle.std.specs.Prelude.{◌≡◌, false, ℕ, List, Option, IfErr, 
 ghost use Rattle.std.specs.Io.KnownBytes.{Appends};
 ghost use Rattle.line_protocol.specs.declared.written.WriterCalls.{WriterCalls};
 ghost use Rattle.journal_text.specs.JournalAnswers.{IsMigrated};
+ghost use Rattle.tenant_audit.specs.Reading.{NamesNewer};
 ghost use Rattle.journal_commands.specs.Auditing.{IsReadingFault};
 ghost use Rattle.journal_commands.specs.Migrating.{IsMigrationFault, MayMigrateTo, MigratesFile};
 ghost use Rattle.command_parts.specs.Streams.{BreaksOff};
 
 use crate::auditing::{cause_of_file, refuse_line};
 use command_parts::{Cause, End, ProgramFault, WholeFiles, say_bytes};
-use journal_text::{JournalFault, migrate_journal};
 use line_protocol::Output;
 use std::alloc::Global;
 use std::io::Write;
+use tenant_audit::{JournalFault, migrate_journal};
 
 /// The text, in the form in which journals are written, of the journal whose text the bytes are.
 fn text_of(alloc: Global, bytes: &[u8]) -> Result<Vec<u8>, ProgramFault>
     ensures migrated { IfOk result (λ text. IsMigrated bytes.now text.items) }
+    ensures known { IfOk result (λ _. NamesNewer bytes.now → ⊥) }
     ensures fault { IfErr result (λ fault. IsReadingFault bytes.now fault) }
 {
     match migrate_journal(alloc, bytes) {

@@ -96,10 +96,10 @@ same_form f g bytes a b = one_form f g a.behind b.behind (sym a.is ∙ b.is)
 has_head : (form : Form) (bytes : List ℕ) (ls : List Line) (rest : List ℕ) → bytes ≡ lines_text form (line.Head ∷ ls) ++ rest → HasHead form bytes
 has_head form bytes ls rest whole = record { behind = lines_text form ls ++ rest; is = whole ∙ lines_cons form line.Head ls rest }
 
-abbrev behind_head : Form → History → List Line
+abbrev pub behind_head : Form → History → List Line
 behind_head form j = ((kinds_lines form j.kinds ++ line.Age j.age ∷ []) ++ body j) ++ line.Close (length j.steps) ∷ []
 
-first_lines : (form : Form) (j : History) → journal_lines form j ≡ line.Head ∷ behind_head form j
+pub first_lines : (form : Form) (j : History) → journal_lines form j ≡ line.Head ∷ behind_head form j
 first_lines form j = closed_lines form j
 
 journal_head : (form : Form) (bytes : List ℕ) (j : History) (rest : List ℕ) → bytes ≡ lines_text form (journal_lines form j) ++ rest → HasHead form bytes

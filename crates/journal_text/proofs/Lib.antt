@@ -16,5 +16,6 @@ pub mod LinesCut
 pub mod Faults
 pub mod Breaks
 pub mod JournalReads
+pub mod Named
 pub mod OneText
 mod KeptRules

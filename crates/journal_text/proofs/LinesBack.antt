@@ -5,7 +5,6 @@ use Rattle.silo_event.specs.declared.reply.Party.{Party}
 use Rattle.silo_event.specs.declared.reply.Party.TheVariants as party
 use Rattle.journal_text.specs.declared.form.Form.TheVariants as forms
 use Rattle.journal_text.specs.declared.line.Line.TheVariants as line
-use Rattle.logic_versions.specs.Versions as logics
 use Rattle.journal_text.specs.Form.{form_text, tells_kinds, is_code, common_codes}
 use Rattle.journal_text.specs.inside.Candidates.{kinds_of, kind_of, tenant_of, recipient_of, recorded_fault_of, outcome_of, reply_of, row_of, head_of, candidate_of}
 use Rattle.journal_text.specs.Text.{◌␣◌, state_text, recipient_text, outcome_text, content_text, line_text}
@@ -86,7 +85,7 @@ tenant_back t l well is =
 kinds_back : (form : Form) (n : ℕ) → IsTrue (tells_kinds form) → IsKinds n → Back (kinds_of form) (decimal n) n
 kinds_back form n tells are =
     let b = last (wide n (omega (arith, are))) in
-    record { plain = b.plain; is = rw (b.is, tells, and_from (leb 1 n) (leb n logics.newest) (le-leb 1 n are.0) (le-leb n logics.newest are.1)) refl }
+    record { plain = b.plain; is = rw (b.is, tells, and_from (leb 1 n) (leb n 255) (le-leb 1 n are.0) (le-leb n 255 are.1)) refl }
 
 kind_back : (form : Form) (k : List ℕ) (n : ℕ) → IsTrue (tells_kinds form) → IsTrue (is_word k) → IsAge n → Back (kind_of form) (k ␣ decimal n) (k, n)
 kind_back form k n tells well is =

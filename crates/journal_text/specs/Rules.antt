@@ -15,7 +15,6 @@ use Rattle.silo_event.specs.declared.reply.Party.TheVariants as party
 use Rattle.silo_event.specs.declared.step.Step.{Step}
 use Rattle.silo_event.specs.declared.step.Step.TheVariants.{Refuse, Call as Calling, Poke, Status, Deliver, Activate}
 use Rattle.silo_event.specs.declared.step.Step.TheVariants.{Load, Begin, Store, End, Abandon, Tick, Sweep}
-use Rattle.logic_versions.specs.Versions.{IsVersion}
 use Rattle.request_codec.specs.Tree.{Tree}
 use Rattle.journal_text.specs.Form.{HasMessage, HasState, is_code, tells_kinds, written}
 use Rattle.journal_text.specs.declared.form.Form.{Form}
@@ -28,9 +27,9 @@ use Rattle.journal_text.specs.declared.line.Line.TheVariants as line
 abbrev pub IsNumber : ℕ → Type 0
 IsNumber n = n < 2 ^ 63
 
--- the number of a version of the logic
+-- the number of a version of the logic: there may be 255, and which of them there are is said above
 abbrev pub IsKinds : ℕ → Type 0
-IsKinds = IsVersion
+IsKinds n = (1 ≤ n) × (n ≤ 255)
 
 abbrev pub IsParty : Party → Type 0
 IsParty (party.Client client id) = IsTrue (is_client client) × IsNumber id
@@ -90,7 +89,7 @@ are_ascending last (row ∷ rows) = comes_after last row.0 && are_ascending (Som
 abbrev pub IsTable : Table → Type 0
 IsTable tenants = table_fault tenants ≡ None
 
--- Its kinds have one of the two logics, and those with an age of their own are a table: at most 64, ascending. Its tenants
+-- Its kinds have a version of the logic, and those with an age of their own are a table: at most 64, ascending. Its tenants
 -- are a table, its rows ascend, and each of its lines holds what may stand in a journal of that form. In a form that
 -- doesn't tell it, the kinds have the first logic, and no age of their own.
 pub record KeepsRulesIn (form : Form) (j : History) : Type 0 where

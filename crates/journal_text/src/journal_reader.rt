@@ -1,9 +1,9 @@
 //! Whole journals, read.
 
 ghost use Rattle.std.specs.Prelude.{◌≡◌, ◌↔◌, ℕ, ◌++◌, ◌∷◌, ◌+◌, ◌^◌, ◌<◌};
-ghost use Rattle.std.specs.Prelude.{IfOk, IfSome, IsTrue, None, false, length, option_map, slice_index, take};
+ghost use Rattle.std.specs.Prelude.{IfOk, IfSome, IsTrue, None, Ok as ok, false, length, option_map, slice_index, take};
 ghost use Rattle.journal_text.specs.declared.line.Line.TheVariants as lines;
-ghost use Rattle.journal_text.specs.JournalAnswers.{ReadsJournal};
+ghost use Rattle.journal_text.specs.JournalAnswers.{NamesKinds, ReadsJournal};
 ghost use Rattle.journal_text.specs.inside.Answers.{HasNoBreak, CutsLine, BeginsWithLine, BeginsWithHead};
 ghost use Rattle.journal_text.specs.inside.Answers.{AreKinds, BeginsWithAge, BeginsWithKinds, TakesKinds};
 ghost use Rattle.journal_text.specs.inside.Answers.{ReadsStart, ReadsRest, start_of};
@@ -132,6 +132,29 @@ fn next_kinds<'a>(
         next_kinds_line(alloc, form, scratch, bytes)
     } else {
         Ok(Some((1, bytes)))
+    }
+}
+
+/// The version of the logic that a journal names which begins as these bytes do: there is one if they begin with the head of
+/// a form whose journals name it, and with the line that does. The lines after these aren't read.
+///
+/// # Errors
+///
+/// Out of memory.
+pub fn named_kinds(alloc: Global, bytes: &[u8]) -> Result<Option<u8>, AllocError>
+    ensures some { IfOk result (λ found. IfSome found (λ kinds. NamesKinds bytes.now kinds)) }
+    ensures none { result ≡ ok None → (kinds : ℕ) → NamesKinds bytes.now kinds → ⊥ }
+{
+    let Some((form, rest)) = next_head(bytes) else {
+        return Ok(None);
+    };
+    if !form.tells_kinds() {
+        return Ok(None);
+    }
+    let mut scratch = LineScratch::new(alloc);
+    match next_kinds_line(alloc, form, &mut scratch, rest)? {
+        Some((kinds, _behind)) => Ok(Some(kinds)),
+        None => Ok(None),
     }
 }
 

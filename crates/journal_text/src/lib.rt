@@ -26,7 +26,7 @@ mod step_reader;
 pub use fault::{JournalFault, LineFault};
 pub use form::Form;
 pub use journal::Journal;
-pub use journal_reader::read_journal;
+pub use journal_reader::{named_kinds, read_journal};
 pub use journal_writer::{JournalParts, journal_of_parts};
 pub use migration::migrate_journal;
 pub use recorded::{RecordedFault, RecordedReply};

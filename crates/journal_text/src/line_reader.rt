@@ -11,7 +11,6 @@ ghost use Rattle.journal_text.specs.inside.Candidates.{head_of, step_line, step_
 ghost use Rattle.journal_text.specs.Rules.{IsKinds, IsLine, IsParty, IsOutcome, IsRow};
 ghost use Rattle.tenant_gate.specs.Age.{IsAge};
 ghost use Rattle.journal_text.specs.Form.{HasState, tells_kinds};
-ghost use Rattle.logic_versions.specs.Versions as logics;
 ghost use Rattle.grain_id.specs.Names.{same_text};
 ghost use Rattle.journal_text.specs.Text.{line_text};
 ghost use Rattle.journal_text.specs.inside.Answers.{ReadsLine};
@@ -27,7 +26,6 @@ use crate::recorded::{RecordedFault, RecordedReply, parse_recorded_fault};
 use crate::step_reader::parse_step;
 use grain_id::{GrainId, IdFault, Kind, NameCache, Tenant};
 use grain_storage::Row;
-use logic_versions::newest;
 use request_codec::StateBytes;
 use silo_event::{Party, Step};
 use std::alloc::{AllocError, Global};
@@ -51,11 +49,11 @@ impl LineScratch {
     }
 }
 
-/// Whether a version of the logic has that number.
+/// Whether a version of the logic may have that number.
 fn is_kinds(number: u64) -> bool
-    ensures { result ≡ nat_le 1 number && nat_le number logics.newest }
+    ensures { result ≡ nat_le 1 number && nat_le number 255 }
 {
-    1 <= number && number <= u64::from(newest())
+    1 <= number && number <= 255
 }
 
 /// What follows `kinds`, in a form that has such a line.

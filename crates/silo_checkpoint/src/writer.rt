@@ -13,7 +13,6 @@ use grain_id::GrainId;
 use grain_logic::GrainLogic;
 use grain_storage::{GrainStorage, Row};
 use journal_text::{JournalParts, journal_of_parts};
-use logic_versions::newest;
 use silo_core::Silo;
 use std::alloc::{AllocError, Global};
 
@@ -21,7 +20,7 @@ use std::alloc::{AllocError, Global};
 fn is_kinds(kinds: u8) -> bool
     ensures { IsTrue result ↔ IsKinds kinds }
 {
-    1 <= kinds && kinds <= newest()
+    1 <= kinds
 }
 
 /// Whether the version of each row is above 0.

@@ -1,3 +1,4 @@
+mod Versions
 mod Starts
 mod Steps
 mod RowsApart

@@ -1,5 +1,5 @@
 -- Steps that a machine takes one after another.
-use Rattle.silo_model.proofs.Common.{[], ◌++◌, ◌+◌, ◌∙◌, ◌∷◌, ◌≡◌, Bool, List, Logic, Machine, None, Ok, Some, Step, ap, append_assoc, arith, false, length, length-append, machine_all_done, machine_step, option_and_then, refl, subst, sym, true, ℕ}
+use Rattle.silo_model.proofs.Common.{[], ◌++◌, ◌∙◌, ◌∷◌, ◌≡◌, Bool, List, Logic, Machine, None, Ok, Some, Step, ap, append_assoc, arith, false, length, length-append, machine_all_done, machine_step, option_and_then, refl, subst, sym, true, ℕ}
 use Rattle.std.proofs.Common.{◌-◌}
 use Rattle.audit_model.specs.Difference.{StopsAt}
 use Rattle.audit_model.proofs.Differences.{done_then}

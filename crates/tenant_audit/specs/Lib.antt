@@ -1,4 +1,5 @@
 pub mod ReportView
 pub mod ReportText
+pub mod Reading
 pub mod ReadBack
 pub mod inside

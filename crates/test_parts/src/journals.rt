@@ -95,6 +95,7 @@ head | silo-journal 1 | 2
 head | silo-journal 2 | 2
 kinds | kinds 1 | 2
 kinds | kinds 2 | 2
+kinds | kinds 255 | 2
 kind | kind counter 10 | 2
 kind | kind k-9 86400000 | 2
 kind | tenant red 2 4 | 2
@@ -150,7 +151,7 @@ head | silo-journal 4 | 1
 head | silo-journal 0 | 1
 head | silo-journal 01 | 1
 kinds | kinds 0 | 1
-kinds | kinds 3 | 1
+kinds | kinds 256 | 1
 kinds | kinds 01 | 1
 kinds | kinds | 1
 kinds | age 1 | 1

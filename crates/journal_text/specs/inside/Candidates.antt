@@ -16,7 +16,6 @@ use Rattle.tenant_gate.specs.Table.{are_in_range}
 use Rattle.grain_storage.specs.declared.row.Row.{Row}
 use Rattle.silo_event.specs.declared.reply.Party.{Party}
 use Rattle.silo_event.specs.declared.reply.Party.TheVariants as party
-use Rattle.logic_versions.specs.Versions as logics
 use Rattle.journal_text.specs.Form.{form_text, tells_kinds, message_in, state_in, is_code}
 use Rattle.journal_text.specs.declared.form.Form.{Form}
 use Rattle.journal_text.specs.RecordedFault.{CodeAndText, code_and_text, is_recorded_fault}
@@ -195,7 +194,7 @@ step_of form word fields =
 abbrev pub kinds_of : Form → List ℕ → Option ℕ
 kinds_of form field = do
   kinds ← wide_of field
-  only_if (tells_kinds form && (nat_le 1 kinds && nat_le kinds logics.newest)) kinds
+  only_if (tells_kinds form && (nat_le 1 kinds && nat_le kinds 255)) kinds
 
 -- a kind and its age, in a form that tells them
 abbrev pub kind_of : Form → List ℕ → Option (List ℕ × ℕ)

@@ -2,9 +2,12 @@
 
 use crate::audits::seen::{reports, reports_under};
 use grain_kinds::{Kinds, RestingKinds};
+use std::alloc::{AllocError, Global};
 use std::sync::Wait;
 use std::test::Fail;
 use std::thread::Threads;
+use tenant_audit::{JournalFault, migrate_journal, read_journal};
+use test_helpers::verdicts::holds;
 
 /// A counter goes before a sheet does, since its kind has a shorter age.
 static AGES: &str =
@@ -57,4 +60,28 @@ fn a_journal_is_audited_under_the_logic_that_it_names(rt: HostRuntime) -> Result
 fn any_logic_can_be_given_to_an_audit(rt: HostRuntime) -> Result<(), Fail> {
     reports_under(rt.alloc(), UNKNOWN, Kinds, CLEAN)?;
     reports_under(rt.alloc(), UNKNOWN, RestingKinds, DIFFERS)
+}
+
+/// The line that is refused, or 0.
+fn refused_line(fault: Option<JournalFault>) -> Result<usize, Fail> {
+    match fault {
+        None => Ok(0),
+        Some(JournalFault::At { line }) => Ok(line),
+        Some(JournalFault::Memory) => Err(Fail::from(AllocError)),
+    }
+}
+
+/// The lines that are refused in a text as it is read and as it is migrated.
+fn refused_lines(alloc: Global, text: &str) -> Result<(usize, usize), Fail> {
+    let read = refused_line(read_journal(alloc, text.as_bytes()).err())?;
+    let migrated = refused_line(migrate_journal(alloc, text.as_bytes()).err())?;
+    Ok((read, migrated))
+}
+
+/// No line after the one that names the version is looked at.
+#[test]
+fn a_version_that_there_is_not_yet_is_refused(rt: HostRuntime) -> Result<(), Fail> {
+    let newer = refused_lines(rt.alloc(), "silo-journal 2\nkinds 255\nwhat\n")?;
+    let known = refused_lines(rt.alloc(), "silo-journal 2\nkinds 2\nwhat\n")?;
+    holds(newer == (2, 2) && known == (3, 3))
 }

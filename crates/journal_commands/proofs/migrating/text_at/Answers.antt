@@ -4,7 +4,13 @@ use Rattle.journal_commands.specs.Migrating.{IsMigrationFault, MigrationFailsBy}
 use Rattle.journal_commands.specs.Auditing.{IsReadingFault}
 use Rattle.std.proofs.KnownBytes.{Keeps-refl}
 use Rattle.journal_commands.proofs.AuditLemmas.{none_read, not_read}
+use Rattle.journal_commands.proofs.MigrationLemmas.{migrated_to}
 use Rattle.journal_commands.proofs.migrating.text_at.Goals as goal
+
+pub returns-in-Ok-clause-migrated : goal.returns-in-Ok-clause-migrated
+returns-in-Ok-clause-migrated g c =
+    let may_hold = g.F.WholeFiles.may_hold c.args.files.now c.args.path.now in
+    migrated_to may_hold c.as_slice.result.now c.text_of.result (subst may_hold (sym c.as_slice.ensures.value) c.in-Ok.ensures.held) c.text_of.ensures.migrated c.text_of.ensures.known
 
 pub returns-in-Ok-clause-fault : goal.returns-in-Ok-clause-fault
 returns-in-Ok-clause-fault g c before writing =

@@ -6,6 +6,7 @@ use Rattle.journal_text.specs.Rules.{IsKinds}
 use Rattle.journal_text.specs.Text.{journal_text}
 use Rattle.audit_model.specs.Report.{IsFirstDifference}
 use Rattle.silo_journal.specs.SiloJournal.{journal_of}
+use Rattle.tenant_audit.proofs.Versions.{may_stand}
 use Rattle.tenant_audit.proofs.writing.write_journal.Goals as goal
 
 pub returns-clause-text : goal.returns-clause-text
@@ -15,7 +16,7 @@ returns-clause-text g c =
 pub returns-clause-is_journal : goal.returns-clause-is_journal
 returns-clause-is_journal g c asked =
     subst (λ (n : ℕ). IfOk c.write_journal.result (λ text. IsJournalText text.items (journal_of n c.args.silo.now))) c.number.ensures
-    (c.write_journal.ensures.is_journal (subst IsKinds (sym c.number.ensures) g.met.L.Version.may_be_named) asked)
+    (c.write_journal.ensures.is_journal (subst IsKinds (sym c.number.ensures) (may_stand g.L.Version.number g.met.L.Version.may_be_named)) asked)
 
 pub returns-clause-no_difference : goal.returns-clause-no_difference
 returns-clause-no_difference g c tenant =
