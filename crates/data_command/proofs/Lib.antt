@@ -5,3 +5,4 @@ pub mod Beginnings
 pub mod Runs
 pub mod Segments
 pub mod OnLogs
+mod Across

@@ -5,3 +5,4 @@ pub mod Passing
 pub mod Folder
 pub mod Laws
 pub mod inside
+pub mod Across
