@@ -1,6 +1,6 @@
 -- How an input ends, and what was told by then.
 use Rattle.std.proofs.Common.{◌≡◌, ◌∙◌, ◌≢◌, ℕ, ◌+◌, Bool, true, List, [], ◌++◌, length, Option, Some, None, IfSome, append_assoc, append-nil, refl, ap, sym, subst, inl, inr}
-use Rattle.std.specs.Io.KnownBytes.{Appends, Keeps, IsAtEnd}
+use Rattle.std.specs.Io.KnownBytes.{Keeps}
 use Rattle.std.proofs.KnownBytes.{Keeps-refl}
 use Rattle.grain_logic.specs.Logic.{Logic}
 use Rattle.silo_model.specs.Whole.{Whole}
@@ -9,20 +9,20 @@ use Rattle.line_protocol.specs.Limits.{calls_limit}
 use Rattle.line_protocol.specs.Lines.{lines_of}
 use Rattle.line_protocol.specs.LineRuns.{WrittenInPart}
 use Rattle.line_protocol.specs.Reading.{Reading, IsFresh, TakesPart, AreTaken, left_of}
-use Rattle.line_protocol.proofs.ReadLines.{all_taken_here, lines_ahead}
+use Rattle.line_protocol.proofs.ReadLines.{lines_ahead}
 use Rattle.line_protocol.proofs.Run.{taken_here}
 use Rattle.line_answer.specs.Limits.{answered_limit}
 use Rattle.log_host.specs.Acts.{Act, Held, held_from}
-use Rattle.log_host.specs.Lasting.{IsAsked, LastsFrom, lines_in}
+use Rattle.log_host.specs.Lasting.{IsAsked, LastsFrom}
 use Rattle.log_host.specs.declared.place.LogPlace.{LogPlace}
 use Rattle.log_host.proofs.Known.{none_written}
-use Rattle.log_answer.specs.Answers.{kept_lines, led, silo_log, told_for}
+use Rattle.log_answer.specs.Answers.{kept_lines, silo_log}
 use Rattle.log_answer.specs.Runs.{GoesOn, StopsLogged, TellsFirst}
 use Rattle.log_answer.specs.inside.Commits.{Breaks, Commits, Settles, StopsTaking}
 use Rattle.log_answer.specs.declared.running.LogFault.{LogFault}
 use Rattle.log_answer.specs.declared.running.LogFault.TheVariants as fault
 use Rattle.log_answer.proofs.Done.{Done, breaks_last, is_asked, done_committed, settles_last, settles_on}
-use Rattle.log_answer.proofs.Led.{is_led, kept_append}
+use Rattle.log_answer.proofs.Led.{kept_append}
 
 module _ (logic : Logic) (n count : ℕ) (old now : History) (before : Option (List ℕ)) (asked texts : List ℕ) where
   -- ---- what was told before a fault

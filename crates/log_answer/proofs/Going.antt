@@ -1,7 +1,7 @@
 -- As far as an input was answered and its log has it.
-use Rattle.std.proofs.Common.{◌≡◌, ◌≢◌, ◌∙◌, ℕ, ◌+◌, Bool, IfSome, List, [], ◌∷◌, ◌++◌, length, Option, Some, append_assoc, append-nil, inl, inr, refl, sym, subst, ap, ⊎_elim}
+use Rattle.std.proofs.Common.{◌≡◌, ◌≢◌, ◌∙◌, ◌≤◌, ℕ, ◌+◌, Bool, IfSome, List, [], ◌∷◌, ◌++◌, length, Option, Some, append_assoc, append-nil, inl, inr, refl, sym, subst, ap}
 use Rattle.std.specs.Prelude.{◌⊎◌}
-use Rattle.std.specs.Io.KnownBytes.{IsAtEnd, Keeps}
+use Rattle.std.specs.Io.KnownBytes.{Keeps}
 use Rattle.std.proofs.KnownBytes.{Keeps-refl}
 use Rattle.grain_logic.specs.Logic.{Logic}
 use Rattle.silo_model.specs.Journal.{LeadsTo}
@@ -9,8 +9,7 @@ use Rattle.silo_model.specs.Opening.{Setup}
 use Rattle.silo_model.specs.Segments.{untold}
 use Rattle.silo_model.specs.Whole.{Whole}
 use Rattle.silo_core.specs.History.{History}
-use Rattle.line_protocol.specs.Lines.{lines_of}
-use Rattle.line_protocol.specs.Reading.{IsFresh, Reading, TakesCut, left_of}
+use Rattle.line_protocol.specs.Reading.{Reading, TakesCut, left_of}
 use Rattle.line_answer.specs.Limits.{answered_limit}
 use Rattle.answer_model.specs.Idle.{AllIdle}
 use Rattle.log_host.specs.Acts.{Act, Held, held_from}
@@ -26,8 +25,9 @@ use Rattle.log_answer.specs.inside.Commits.{Breaks, Commits, Settles, StopsTakin
 use Rattle.log_answer.specs.inside.Gathering.{Gathers, GathersOn}
 use Rattle.log_answer.proofs.Done.{Done, done_gathered, done_left, done_none, kept_heard, led_by_heard, settles_last, settles_none}
 use Rattle.log_answer.proofs.Led.{led_append}
-use Rattle.log_answer.proofs.Left.{gathers_on, led_alike, left_is_all}
+use Rattle.log_answer.proofs.Left.{gathers_on, led_alike, left_is_all, left_self}
 use Rattle.log_answer.proofs.Paused.{answers_part}
+use Rattle.log_answer.proofs.Room.{Grown, grown_more, grown_none}
 use Rattle.log_answer.proofs.Own.{own_part, own_settled, same_more, tells_same}
 use Rattle.log_answer.proofs.Ends.{asking, committed, lasts_taking, lasts_then, settles_then, stops_full, stops_memory, stops_taking}
 
@@ -51,22 +51,24 @@ pub record Going (logic : Logic) (n count : ℕ) (from left : Option (List ℕ))
   pub tells : Telling logic n begun place old.whole start new
   pub name : place.name ≡ begun.name
 
--- so far, by a silo that has what is left of the history to which the lines lead
-pub record GoingOn (keeps : Bool) (logic : Logic) (n count : ℕ) (from left : Option (List ℕ)) (old now : History) (before after : Option (List ℕ))
+-- So far, by a silo that has what is left of the history to which the lines lead. The lines have so many bytes in the log, and without the
+-- last of them they have room.
+pub record GoingOn (keeps : Bool) (logic : Logic) (n count room grown : ℕ) (from left : Option (List ℕ)) (old now : History) (before after : Option (List ℕ))
     (asked texts : List ℕ) (begun place : LogPlace) (start new : Option (List Act)) : Type 0 where
   pub all : History
   pub has : HasLeft keeps all now
   pub going : Going logic n count from left old all before after asked texts begun place start new
+  pub bytes : Grown room grown (going.told ++ going.pending)
 
 -- its tenants are those of before
-pub going_tables : (keeps : Bool) (logic : Logic) (n count : ℕ) (from left : Option (List ℕ)) (old now : History) (before after : Option (List ℕ)) (asked texts : List ℕ)
-    (begun place : LogPlace) (start new : Option (List Act)) → GoingOn keeps logic n count from left old now before after asked texts begun place start new
+pub going_tables : (keeps : Bool) (logic : Logic) (n count room grown : ℕ) (from left : Option (List ℕ)) (old now : History) (before after : Option (List ℕ)) (asked texts : List ℕ)
+    (begun place : LogPlace) (start new : Option (List Act)) → GoingOn keeps logic n count room grown from left old now before after asked texts begun place start new
     → SameTables old.setup now.setup
-going_tables keeps logic n count from left old now before after asked texts begun place start new p =
+going_tables keeps logic n count room grown from left old now before after asked texts begun place start new p =
     subst (λ (s : Setup). SameTables s now.setup) p.going.done.setup p.has.tables
 
 module _ (logic : Logic) (n : ℕ) where
-  pub going_none : (from : Option (List ℕ)) (old : History) (before : Option (List ℕ)) (asked texts : List ℕ) (begun : LogPlace) (start : Option (List Act))
+  going_none : (from : Option (List ℕ)) (old : History) (before : Option (List ℕ)) (asked texts : List ℕ) (begun : LogPlace) (start : Option (List Act))
       → LeadsTo logic old.setup old.journal old.whole → AllIdle old.whole.entries → asked ≡ [] → texts ≡ []
       → Going logic n 0 from from old old before before asked texts begun begun start start
   going_none from old before asked texts begun start leads idle none nothing = record {
@@ -76,6 +78,17 @@ module _ (logic : Logic) (n : ℕ) where
     keeps = λ w first h acts is on. settles_none logic n w first begun h old.whole acts start is on;
     tells = λ w first sum h acts is on m. tells_same logic n w begun.name first sum h begun.told start acts is m;
     name = refl;
+  }
+
+  pub begins_on : (keeps : Bool) (room : ℕ) (from : Option (List ℕ)) (old : History) (before : Option (List ℕ)) (asked texts : List ℕ) (begun : LogPlace) (start : Option (List Act))
+      → LeadsTo logic old.setup old.journal old.whole → AllIdle old.whole.entries → asked ≡ [] → texts ≡ []
+      → GoingOn keeps logic n 0 room 0 from from old old before before asked texts begun begun start start
+  unfolding going_none
+  begins_on keeps room from old before asked texts begun start leads idle none nothing = record {
+    all = old;
+    has = left_self keeps old;
+    going = going_none from old before asked texts begun start leads idle none nothing;
+    bytes = grown_none room;
   }
 
   module _ (count : ℕ) (from left : Option (List ℕ)) (old now : History) (before during : Option (List ℕ)) (asked texts : List ℕ) (begun place : LogPlace)
@@ -133,7 +146,16 @@ module _ (logic : Logic) (n : ℕ) where
       pub going_moved : (Waits mid new during after place next asked asked_then texts texts_then
           ⊎ (Commits mid new during after place asked texts next × (asked_then ≡ []) × (texts_then ≡ [])))
           → Going logic n count from left old now before after asked_then texts_then begun next start new
-      going_moved moves = ⊎_elim going_on (λ c. going_committed c.0 c.1 c.2) moves
+      going_moved (inl w) = going_on w
+      going_moved (inr c) = going_committed c.0 c.1 c.2
+
+      -- the lines are the same
+      pub moved_grown : (room grown : ℕ) → Grown room grown (p.told ++ p.pending) → (moves : Waits mid new during after place next asked asked_then texts texts_then
+          ⊎ (Commits mid new during after place asked texts next × (asked_then ≡ []) × (texts_then ≡ [])))
+          → Grown room grown ((going_moved moves).told ++ (going_moved moves).pending)
+      unfolding going_moved going_on going_committed
+      moved_grown room grown g (inl w) = g
+      moved_grown room grown g (inr c) = subst (λ (ls : List (List ℕ)). Grown room grown ls) (sym (append-nil (p.told ++ p.pending))) g
 
     -- one line more waits in the batch
     pub going_gathered : (next : Option (List ℕ)) (new : History) (found shown asked_then texts_then : List ℕ) → found ≡ shown → (w : TakesCut left next shown)
@@ -153,11 +175,19 @@ module _ (logic : Logic) (n : ℕ) where
     -- of a silo that has what is left
     pub gathered_on : (keeps here : Bool) (has new : History) → here ≡ keeps → HasLeft keeps now has → (next : Option (List ℕ)) (found shown asked_then texts_then : List ℕ) → found ≡ shown
         → (w : TakesCut left next shown) → GathersOn here logic n has (kept_line found) new asked asked_then texts texts_then
-        → GoingOn keeps logic n (count + 1) from next old new before during asked_then texts_then begun place start mid
-    gathered_on keeps here has new is left_there next found shown asked_then texts_then same w g =
+        → (room grown total : ℕ) → Grown room grown (p.told ++ p.pending) → grown ≤ room → total ≡ grown + (length (kept_line found) + 1)
+        → GoingOn keeps logic n (count + 1) room total from next old new before during asked_then texts_then begun place start mid
+    unfolding going_gathered
+    gathered_on keeps here has new is left_there next found shown asked_then texts_then same w g room grown total b fit sum =
         let on = gathers_on logic n keeps now has new left_there (kept_line found) asked asked_then texts texts_then
         (subst (λ (b : Bool). GathersOn b logic n has (kept_line found) new asked asked_then texts texts_then) is g) in
-        record { all = on.0; has = on.2; going = going_gathered next on.0 found shown asked_then texts_then same w on.1 }
+        record {
+          all = on.0;
+          has = on.2;
+          going = going_gathered next on.0 found shown asked_then texts_then same w on.1;
+          bytes = subst (λ (ls : List (List ℕ)). Grown room total ls) (append_assoc p.told p.pending (w.line ∷ []))
+              (grown_more room grown total (p.told ++ p.pending) w.line b fit (sum ∙ ap (λ (l : List ℕ). grown + (length l + 1)) (ap kept_line same ∙ w.cut)));
+        }
 
     -- ---- the end of the input, behind the last batch
 

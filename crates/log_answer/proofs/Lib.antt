@@ -8,6 +8,7 @@ pub mod Kept
 pub mod Passed
 mod Paused
 pub mod Parts
+mod Room
 pub mod Passing
 pub mod Lives
 pub mod Own

@@ -1,26 +1,26 @@
 -- Logs whose marks say the sums of what is told for their lines.
-use Rattle.std.proofs.Common.{◌≡◌, ◌≢◌, ◌∙◌, ℕ, List, [], ◌∷◌, ◌++◌, Option, None, Some, append_assoc, append-nil, refl, ap, sym, subst}
+use Rattle.std.proofs.Common.{◌≡◌, ◌∙◌, ℕ, List, [], ◌∷◌, ◌++◌, Option, Some, append_assoc, append-nil, refl, ap, sym, subst}
 use Rattle.std.proofs.lemmas.List.{append_cancel_left}
 use Rattle.std.proofs.lemmas.Option.{none-some, same_Some}
 use Rattle.grain_logic.specs.Logic.{Logic}
 use Rattle.silo_model.specs.Whole.{Whole}
-use Rattle.log_text.specs.Lines.{HasNoBreak, IsPrefixOf, ended}
+use Rattle.log_text.specs.Lines.{HasNoBreak, ended}
 use Rattle.log_text.specs.Sums.{after, own_sums, spelled}
 use Rattle.log_text.specs.Batches.{AreBatches, Batch, log_text, mark_behind}
-use Rattle.log_text.specs.Reading.{fault_in, left_in, lines_of, recovered}
+use Rattle.log_text.specs.Reading.{lines_of, recovered}
 use Rattle.log_text.proofs.Passes.{log_append, prefixes_pass}
 use Rattle.log_text.proofs.Prefixes.{prefixes_read}
 use Rattle.log_text.proofs.Read.{reads_batches}
 use Rattle.log_text.proofs.Spelled.{spells_plain}
 use Rattle.log_text.proofs.Written.{written_whole}
 use Rattle.log_host.specs.Acts.{Act, Adds, Held, Puts, does, held_from, synced, told, written_by, wrote}
-use Rattle.log_host.specs.Lasting.{IsAsked, IsSettled, Log}
+use Rattle.log_host.specs.Lasting.{IsAsked, IsSettled}
 use Rattle.log_host.specs.declared.place.LogPlace.{LogPlace}
 use Rattle.log_host.proofs.Known.{known}
 use Rattle.log_host.proofs.Moments.{are_append, bytes, is_batch, read_now, read_then}
 use Rattle.log_answer.specs.Answers.{led, silo_log, told_for}
 use Rattle.log_answer.specs.Laws.{OwnTaken, StartsTell}
-use Rattle.log_answer.specs.Starts.{IsOwn, MarksTell, OwnsFrom, TellSums, TellsOtherwise, told_sum}
+use Rattle.log_answer.specs.Starts.{IsOwn, MarksTell, OwnsFrom, TellSums, told_sum}
 use Rattle.log_answer.specs.declared.starting.AgainFault.TheVariants as fault
 use Rattle.log_answer.proofs.Led.{led_append, told_append}
 use Rattle.log_answer.proofs.Passed.{tells_push, told_push}

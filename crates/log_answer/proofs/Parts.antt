@@ -1,8 +1,8 @@
 -- Parts of an input that are answered one after the other.
-use Rattle.std.proofs.Common.{◌≡◌, ◌∙◌, ℕ, ◌+◌, Bool, IfSome, List, [], ◌∷◌, ◌++◌, length, length-append, Option, None, Some, append_assoc, append-nil, ap, arith, inl, inr, refl, subst, sym, ⊎_elim}
-use Rattle.std.specs.Prelude.{◌⊎◌, ◌≢◌}
+use Rattle.std.proofs.Common.{◌≡◌, ◌∙◌, ℕ, ◌+◌, Bool, IfSome, List, [], ◌++◌, length, length-append, Option, None, Some, append_assoc, append-nil, ap, arith, inl, inr, refl, subst, sym, ⊎_elim}
+use Rattle.std.specs.Prelude.{◌⊎◌}
 use Rattle.std.proofs.lemmas.List.{nil_from_length}
-use Rattle.std.specs.Io.KnownBytes.{Appends, Consumes, IsAtEnd}
+use Rattle.std.specs.Io.KnownBytes.{Appends, IsAtEnd}
 use Rattle.std.proofs.KnownBytes.{Appends-nil, Appends-trans, Consumes-trans, Keeps-refl}
 use Rattle.grain_logic.specs.Logic.{Logic}
 use Rattle.silo_model.specs.Segments.{untold}
@@ -13,7 +13,6 @@ use Rattle.line_protocol.specs.Lines.{lines_of, whole_lines}
 use Rattle.line_protocol.specs.LineRuns.{WrittenInPart}
 use Rattle.line_protocol.specs.Reading.{AreTaken, Reading}
 use Rattle.line_answer.specs.Dropped.{MayDrop}
-use Rattle.line_answer.specs.Limits.{answered_limit}
 use Rattle.line_answer.proofs.Dropped.{leaves_dropped, leaves_self}
 use Rattle.log_text.specs.Lines.{HasNoBreak}
 use Rattle.log_host.specs.Acts.{Act, Held, held_from}

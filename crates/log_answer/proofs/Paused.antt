@@ -6,7 +6,7 @@ use Rattle.line_protocol.specs.Lines.{lines_of, whole_lines}
 use Rattle.line_protocol.proofs.LinesOfBytes.{lines_of-break, whole_lines-break}
 use Rattle.line_protocol.proofs.TakenLines.{HaveNoBreaks, ended_lines}
 use Rattle.log_answer.specs.Answers.{HasLeft, LeadsOn, led, told_for}
-use Rattle.log_answer.specs.Runs.{AnswersPart, AreLines}
+use Rattle.log_answer.specs.Runs.{AnswersPart}
 use Rattle.log_answer.proofs.Done.{Done}
 
 lines_of-ended : (lines : List (List ℕ)) (rest : List ℕ) → HaveNoBreaks lines → lines_of (ended_lines lines ++ rest) ≡ lines ++ lines_of rest

@@ -1,5 +1,5 @@
 -- What the lines of a log lead to, and what they answer.
-use Rattle.std.specs.Prelude.{◌≡◌, ℕ, Bool, List, map, take}
+use Rattle.std.specs.Prelude.{◌≡◌, ℕ, Bool, List, flat_map, length, map, take}
 use Rattle.grain_logic.specs.Logic.{Logic}
 use Rattle.silo_model.specs.Opening.{Setup}
 use Rattle.silo_model.specs.Whole.{Whole, shown_to}
@@ -12,6 +12,7 @@ use Rattle.answer_model.specs.Idle.{AllIdle}
 use Rattle.line_answer.specs.Dropped.{Leaves}
 use Rattle.line_answer.specs.Texts.{Heard, asks_of, lines_text}
 use Rattle.line_answer.specs.Laws.{heard_well}
+use Rattle.log_text.specs.Lines.{ended}
 use Rattle.log_host.specs.Lasting.{Log}
 
 -- the lines, as they are answered if nothing fails
@@ -71,3 +72,7 @@ kept_line line = take kept_limit line
 
 abbrev pub kept_lines : List (List ℕ) → List (List ℕ)
 kept_lines lines = map kept_line lines
+
+-- how many bytes of lines a log gets by these: each as the log has it, with its LF
+abbrev pub line_bytes : List (List ℕ) → ℕ
+line_bytes lines = length (flat_map ended (kept_lines lines))

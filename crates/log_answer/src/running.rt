@@ -1,14 +1,15 @@
 //! Every line of an input, answered, and in a log before any reply to it is written.
 
-ghost use Rattle.std.specs.Prelude.{◌≡◌, ◌≢◌, ◌⊎◌, ◌≤◌, ◌<◌, ◌+◌, [], false, true, List, ℕ, Ok, Option, Some};
+ghost use Rattle.std.specs.Prelude.{◌≡◌, ◌≢◌, ◌⊎◌, ◌≤◌, ◌<◌, ◌+◌, ◌-◌, [], false, take, true, List, ℕ, Ok, Option, Some};
 ghost use Rattle.std.specs.Prelude.{IfErr, IfOk, IfSome, OnErr, OnOk};
 ghost use Rattle.std.specs.Io.KnownBytes.{IsAtEnd, Keeps};
 ghost use Rattle.silo_model.specs.Whole.{Whole};
+ghost use Rattle.line_protocol.specs.Lines.{lines_of};
 ghost use Rattle.line_protocol.specs.Reading.{TakesCut, left_of};
 ghost use Rattle.line_answer.specs.Limits.{answered_limit};
 ghost use Rattle.log_host.specs.Acts.{Act, Held};
 ghost use Rattle.log_host.specs.Lasting.{LastsFrom};
-ghost use Rattle.log_answer.specs.Answers.{SameTables, silo_log};
+ghost use Rattle.log_answer.specs.Answers.{SameTables, line_bytes, silo_log};
 ghost use Rattle.log_answer.specs.Runs.{GoesOn, RunsOn, StopsLogged};
 ghost use Rattle.log_answer.specs.Starts.{MarksTell, OwnsFrom};
 ghost use Rattle.log_answer.specs.inside.Commits.{Commits, StopsTaking, Waits};
@@ -212,6 +213,14 @@ pub fn answer_logged<R: Read, W: Write, H: LogHost, S: GrainStorage, L: GrainLog
 
     // It pauses behind a line, and not before.
     ensures on { IfOk result (λ ran. ran.paused ≡ true → from.count < ran.count) }
+
+    // It pauses once its lines, as the log has them, are more bytes than there was room for.
+    ensures pauses { IfOk result (λ ran. ran.paused ≡ true → IfSome (left_of input.old.lines (R.remaining input.old.reader)) (λ bytes.
+        from.room < line_bytes (take (ran.count - from.count) (lines_of bytes)))) }
+
+    // All of its lines but the last have room.
+    ensures room { IfOk result (λ ran. IfSome (left_of input.old.lines (R.remaining input.old.reader)) (λ bytes.
+        line_bytes (take (ran.count - from.count - 1) (lines_of bytes)) ≤ from.room)) }
     ensures bound { IfOk result (λ ran. ran.count ≤ answered_limit) }
     ensures unfailed { OnOk result (H.failed log.new ≡ H.failed log.old) }
     ensures output { OnOk result (output.new.calls.failed ≡ output.old.calls.failed) }
@@ -226,7 +235,7 @@ pub fn answer_logged<R: Read, W: Write, H: LogHost, S: GrainStorage, L: GrainLog
     let mut place = from.place;
     let mut grown: u64 = 0;
     for count in from.count..ANSWERED_LIMIT {
-        if grown > from.room && count > from.count {
+        if grown > from.room {
             let next = commit_batch(log, output, place, &mut batch)?;
             return Ok(Ran {
                 place: next,

@@ -4,22 +4,23 @@ use Rattle.line_protocol.specs.Reading.{left_of}
 use Rattle.line_protocol.proofs.ReadLines.{handed}
 use Rattle.line_protocol.proofs.Run.{nothing_ahead}
 use Rattle.line_protocol.proofs.TakenLines.{TakesPart-kept, TakesPart-none}
-use Rattle.log_answer.proofs.Left.{left_self}
-use Rattle.log_answer.proofs.Going.{gathered_on, going_full, going_memory, going_moved, going_none, going_runs, going_stops, going_tables, lasts_ended, lasts_now, lasts_stopped, owns_ended, owns_now, owns_stopped}
+use Rattle.log_answer.proofs.Room.{counted_on, had_room, used_up}
+use Rattle.log_answer.proofs.Going.{begins_on, gathered_on, going_full, going_memory, going_moved, going_runs, going_stops, going_tables, lasts_ended, lasts_now, lasts_stopped, moved_grown, owns_ended, owns_now, owns_stopped}
 use Rattle.log_answer.proofs.Kept.{stops_behind, stops_commit}
 use Rattle.log_answer.proofs.running.answer_logged.Goals as goal
 
 pub loop-count-init : goal.loop-count-init
 loop-count-init g c =
-    ((0, omega arith, record { all = _; has = left_self _ _; going = going_none _ _ _ _ _ _ _ _ _ c.journal.ensures.leads (c.journal.ensures.idle c.requires.ready) c.new-batch.ensures.0 c.new-batch.ensures.1 }), c.requires.ready, refl, refl, refl, refl, λ none. none, refl)
+    ((0, omega arith, begins_on _ _ _ _ _ _ _ _ _ _ _ c.journal.ensures.leads (c.journal.ensures.idle c.requires.ready) c.new-batch.ensures.0 c.new-batch.ensures.1), c.requires.ready, refl, refl, refl, refl, λ none. none, refl)
 
 pub loop-count-preserved : goal.loop-count-preserved
 loop-count-preserved g c =
     let inv = c.loop-count.invariant in
     let taken = c.in_ok-take_next.ensures in
     let more = ap Ok c.if-not-branch.false in
-    let moved = going_moved _ _ _ _ _ _ _ _ _ _ _ _ _ _ _ inv.0.2.going _ _ _ _ _ (taken.moves more) in (
-      (inv.0.0 + 1, omega (arith, inv.0.1), gathered_on _ _ _ _ _ _ _ _ _ _ _ _ _ _ _ moved _ _ _ _ inv.5 inv.0.2.has _ _ _ _ _ c.line-line.ensures (taken.line more) c.in_ok-answer_more.ensures.gathers),
+    let moved = going_moved _ _ _ _ _ _ _ _ _ _ _ _ _ _ _ inv.0.2.going _ _ _ _ _ (taken.moves more) in
+    let bytes = moved_grown _ _ _ _ _ _ _ _ _ _ _ _ _ _ _ inv.0.2.going _ _ _ _ _ _ _ inv.0.2.bytes (taken.moves more) in (
+      (inv.0.0 + 1, omega (arith, inv.0.1), gathered_on _ _ _ _ _ _ _ _ _ _ _ _ _ _ _ moved _ _ _ _ inv.5 inv.0.2.has _ _ _ _ _ c.line-line.ensures (taken.line more) c.in_ok-answer_more.ensures.gathers _ _ _ bytes (omega (arith, c.if-grown-from.false)) (counted_on _ _ _ _ _ _ _ bytes (omega (arith, inv.0.1, inv.0.2.going.done.counted, c.loop-count-test.true)) c.kept_part.ensures c.saturating_add.ensures c.saturating_add-grown.ensures)),
       c.in_ok-answer_more.ensures.ready,
       taken.unfailed ∙ inv.2,
       taken.output ∙ inv.3,
@@ -173,10 +174,10 @@ returns-clause-out g c none = c.in_ok-last.ensures.out (c.loop-count.invariant.6
 -- the tenants are the same
 
 pub returns-then-not-branch-clause-tables : goal.returns-then-not-branch-clause-tables
-returns-then-not-branch-clause-tables g c = going_tables _ _ _ _ _ _ _ _ _ _ _ _ _ _ _ _ c.loop-count.invariant.0.2
+returns-then-not-branch-clause-tables g c = going_tables _ _ _ _ _ _ _ _ _ _ _ _ _ _ _ _ _ _ c.loop-count.invariant.0.2
 
 pub returns-clause-tables : goal.returns-clause-tables
-returns-clause-tables g c = going_tables _ _ _ _ _ _ _ _ _ _ _ _ _ _ _ _ c.loop-count.invariant.0.2
+returns-clause-tables g c = going_tables _ _ _ _ _ _ _ _ _ _ _ _ _ _ _ _ _ _ c.loop-count.invariant.0.2
 
 pub returns-in_err-next-clause-stops : goal.returns-in_err-next-clause-stops
 returns-in_err-next-clause-stops g c =
@@ -205,14 +206,28 @@ returns-in_err-next-clause-own g c =
 
 -- ---- a pause
 
-pub returns-then-count-from-clause-ran : goal.returns-then-count-from-clause-ran
-returns-then-count-from-clause-ran g c =
+pub returns-then-grown-from-clause-ran : goal.returns-then-grown-from-clause-ran
+returns-then-grown-from-clause-ran g c =
     let inv = c.loop-count.invariant.0 in
     let input = c.loop-count.input in
     (inv.0, inv.1, going_runs _ _ _ _ _ _ _ _ _ _ _ _ _ _ _ inv.2.going _ _ inv.2.has _ _ _ c.in_ok-next.ensures.commits _ (Keeps-refl (left_of input.lines (g.R.Read.remaining input.reader))))
 
-pub returns-then-count-from-clause-lasts : goal.returns-then-count-from-clause-lasts
-returns-then-count-from-clause-lasts g c = lasts_ended _ _ _ _ _ _ _ _ _ _ _ _ _ _ _ c.loop-count.invariant.0.2.going _ _ _ c.in_ok-next.ensures.commits
+pub returns-then-grown-from-clause-lasts : goal.returns-then-grown-from-clause-lasts
+returns-then-grown-from-clause-lasts g c = lasts_ended _ _ _ _ _ _ _ _ _ _ _ _ _ _ _ c.loop-count.invariant.0.2.going _ _ _ c.in_ok-next.ensures.commits
 
-pub returns-then-count-from-clause-own : goal.returns-then-count-from-clause-own
-returns-then-count-from-clause-own g c = owns_ended _ _ _ _ _ _ _ _ _ _ _ _ _ _ _ c.loop-count.invariant.0.2.going _ _ _ c.in_ok-next.ensures.commits
+pub returns-then-grown-from-clause-own : goal.returns-then-grown-from-clause-own
+returns-then-grown-from-clause-own g c = owns_ended _ _ _ _ _ _ _ _ _ _ _ _ _ _ _ c.loop-count.invariant.0.2.going _ _ _ c.in_ok-next.ensures.commits
+
+-- ---- the room
+
+pub returns-then-grown-from-clause-pauses : goal.returns-then-grown-from-clause-pauses
+returns-then-grown-from-clause-pauses g c paused =
+    let inv = c.loop-count.invariant.0 in
+    let d = inv.2.going.done in
+    used_up _ _ _ _ _ d.counted (omega (arith, inv.1)) inv.2.bytes (omega (arith, c.if-grown-from.true)) _ _ d.taken
+
+pub returns-then-grown-from-clause-room : goal.returns-then-grown-from-clause-room
+returns-then-grown-from-clause-room g c =
+    let inv = c.loop-count.invariant.0 in
+    let d = inv.2.going.done in
+    had_room _ _ _ _ _ d.counted (omega (arith, inv.1)) inv.2.bytes _ _ d.taken
