@@ -1,6 +1,8 @@
 -- With what a silo goes on, by what a folder has.
-use Rattle.std.proofs.Common.{Err, IfOk, OnOk, Ok, OnErr, Result, ◌≡◌, ◌∙◌, ℕ, List, [], ◌++◌, Option, None, Some, ap, inl, inr, length, refl, subst, sym}
+use Rattle.std.proofs.Common.{Bool, Err, IfOk, OnOk, Ok, OnErr, Result, ◌≡◌, ◌∙◌, ℕ, List, [], ◌++◌, Option, None, Some, ap, inl, inr, length, refl, subst, sym}
 use Rattle.std.specs.Prelude.{◌⊎◌}
+use Rattle.grain_logic.specs.Logic.{Logic}
+use Rattle.silo_core.specs.History.{History}
 use Rattle.silo_state.specs.KeptParts.{MayResume, kept_in}
 use Rattle.silo_state.specs.declared.parts.KeptParts.{KeptParts}
 use Rattle.log_text.specs.Head.{head_text}
@@ -9,16 +11,17 @@ use Rattle.log_host.specs.Files.{Begins, MayBegin, IsAt}
 use Rattle.log_text.specs.Lines.{whole_lines}
 use Rattle.silo_checkpoint.specs.Saved.{HasText, Saved, saved_by, sum_in}
 use Rattle.silo_checkpoint.proofs.OneSaved.{one_saved}
-use Rattle.command_parts.specs.Setups.{Start, started}
+use Rattle.command_parts.specs.Setups.{Start, started, version_of}
 use Rattle.command_parts.specs.declared.failure.Cause.{Cause}
 use Rattle.command_parts.specs.declared.failure.Cause.TheVariants as cause
-use Rattle.data_command.specs.Data.{LeavesLog, LogView, since}
+use Rattle.data_command.specs.Data.{IsFound, IsFoundPoint, LeavesLog, LogView, since}
 use Rattle.data_command.specs.Passing.{RunLasts}
 use Rattle.data_command.specs.Folder.{FailsToOpen, FolderLasts, FromFolder, OpeningFailsBy, OpensAt}
 use Rattle.data_command.specs.Words.{head_words}
 use Rattle.data_command.specs.declared.fault.DataFault.{DataFault}
 use Rattle.data_command.specs.declared.fault.DataFault.TheVariants as data_fault
-use Rattle.data_command.specs.inside.Ready.{HasFound, HasNumber, IsWrongLog, SaysWords}
+use Rattle.data_command.specs.declared.starting.LogTask.{LogTask}
+use Rattle.data_command.specs.inside.Ready.{HasFound, HasNumber, IsReady, IsWrongLog, SaysWords}
 
 pub on_err_so : {T E : Type 0} (r : Result T E) (P Q : Type 0) → (P → Q) → OnErr r P → OnErr r Q
 on_err_so (Ok v) P Q so is = is
@@ -175,3 +178,24 @@ module _ (start : Start) (sends : ℕ) (old now : LogView) (log : Option (List �
     wrong_log saved says words worded bytes there data_fault.NoCheckpoint is = absurd is
     wrong_log saved says words worded bytes there data_fault.NoLog is = absurd is
     wrong_log saved says words worded bytes there (data_fault.Otherwise line) is = absurd is
+
+-- ---- what a run is handed
+
+pub found_so : {old now : LogView} {log point : Option (List ℕ)} → LeavesLog (since old now) → now.acts ≡ old.acts → IsFound (since old now) log → IsFoundPoint (since old now) point → HasFound old now log point
+found_so left acts log_is point_is = record { left = left; acts = acts; log_is = log_is; point_is = point_is }
+
+module _ {logic : Logic} {kinds sends : ℕ} {view : LogView} {silo : History} {stopped keeps : Bool} {task : LogTask} (r : IsReady (version_of logic kinds) sends view silo stopped keeps task) where
+  -- its words are those of what it is given
+  pub ready_words : task.words.items ≡ head_words (started (version_of logic task.kinds) silo.setup) task.sends
+  ready_words = r.words ∙ (λ i. head_words (started (version_of logic (sym r.kinds i)) silo.setup) (sym r.sends_are i))
+
+  -- what holds of what it is given holds of what the folder opens with
+  pub at_ready : {start : Start} {old : LogView} → OpensAt start sends old view (started (version_of logic kinds) silo.setup)
+      → (Holds : Start → ℕ → LogView → Type 0) → Holds (started (version_of logic task.kinds) silo.setup) task.sends view → FromFolder start sends old (λ own now. Holds own sends now)
+  at_ready opens Holds is = record {
+    own = started (version_of logic kinds) silo.setup;
+    view = view;
+    opens = opens;
+    holds = subst (λ (n : ℕ). Holds (started (version_of logic kinds) silo.setup) n view) r.sends_are
+        (subst (λ (k : ℕ). Holds (started (version_of logic k) silo.setup) task.sends view) r.kinds is);
+  }

@@ -1,5 +1,10 @@
 -- A checkpoint takes the place of a log.
-use Rattle.std.proofs.Common.{◌≡◌, ◌∙◌, ℕ, List, [], Option, Some, inl, inr, refl, sym, ap, subst}
+use Rattle.std.proofs.Common.{◌≡◌, ◌<◌, ◌∙◌, ℕ, zero, suc, true, List, [], ◌∷◌, Option, Some, arith, inl, inr, refl, sym, ap, subst}
+use Rattle.std.specs.Cmp.{first_so, second_so}
+use Rattle.std.specs.List.{list_all}
+use Rattle.std.specs.Str.{IsAscii, IsUtf8}
+use Rattle.std.proofs.lemmas.Str.{IsUtf8-from_ascii}
+use Rattle.grain_id.specs.Words.{is_name_byte}
 use Rattle.std.specs.Prelude.{◌⊎◌}
 use Rattle.std.proofs.lemmas.Option.{same_Some}
 use Rattle.grain_logic.specs.Logic.{Logic}
@@ -12,12 +17,28 @@ use Rattle.log_text.specs.Head.{head_text}
 use Rattle.log_text.specs.Sums.{spelled}
 use Rattle.log_host.specs.Acts.{Act}
 use Rattle.log_host.specs.Files.{IsAt, MaySwitch, Past, Switches, with_log, with_point}
-use Rattle.silo_checkpoint.specs.Saved.{HasText, sum_in}
+use Rattle.silo_checkpoint.specs.Saved.{HasText, Saved, saved_by, sum_in}
 use Rattle.command_parts.specs.Setups.{Start, Version, started}
 use Rattle.data_command.specs.Data.{IsReplaced, LogView, Stands, StandsAt, TakesPlace, place_of, since}
 use Rattle.data_command.specs.Words.{head_words}
 use Rattle.data_command.specs.inside.Replacing.{AreTexts, IsNext, MayBeReplaced}
 use Rattle.data_command.specs.declared.starting.StartedLog.{StartedLog}
+
+-- ---- the number of a log
+
+small : (b : ℕ) → is_name_byte b ≡ true → b < 128
+small b is = grind (arith, is)
+
+visible : (xs : List ℕ) → list_all is_name_byte xs ≡ true → IsAscii xs
+visible [] all i = omega arith
+visible (x ∷ xs) all zero = small x (first_so (is_name_byte x) (list_all is_name_byte xs) all)
+visible (x ∷ xs) all (suc i) = visible xs (second_so (is_name_byte x) (list_all is_name_byte xs) all) i
+
+-- what a checkpoint follows is UTF-8
+pub follows_text : (text : List ℕ) (saved : Saved) → HasText text saved → IsUtf8 saved.follows
+follows_text text saved says = IsUtf8-from_ascii saved.follows (subst IsAscii says.follows (visible says.checkpoint.follows says.is.follows))
+
+-- ---- the silo
 
 -- a silo without a step is at its opening
 pub at_opening : (logic : Logic) (h : History) → LeadsTo logic h.setup h.journal h.whole → h.journal ≡ [] → opening h.setup ≡ h.whole
@@ -40,7 +61,7 @@ module _ (start : Start) (version : Version) (sends : ℕ) (words number : List 
     takes : TakesPlace start sends number bytes acts new.setup text
     takes = record {
       told = m.told;
-      says = subst (λ (v : Version). HasText text (record { follows = number; kinds = v.number; sends = sends; setup = new.setup })) (sym m.same) t.says;
+      says = subst (λ (v : Version). HasText text (saved_by number v.number sends new.setup)) (sym m.same) t.says;
       opens = at_start ∙ reopened.whole ∙ m.leads;
       words = same_words;
       other = t.other;

@@ -111,21 +111,26 @@ module _ (keeps : Bool) (version : Version) (setup : Setup) (sends : ℕ) (synce
   abbrev Known : Type 0
   Known = is_known synced old.acts ≡ true
 
-  -- Some logs were passed, and what was answered since is in the last one.
-  pub record Segments (left : Option (List ℕ)) (now : History) (after : Option (List ℕ)) (count : ℕ) (number : List ℕ) (place : LogPlace) (log : LogView) : Type 0 where
+  -- Some logs were passed, and another one was begun behind them.
+  pub record LastLog : Type 0 where
     pub passed : List Passed
     pub opened : Setup
     pub words : head_words (started version opened) sends ≡ head_words start sends
     pub view : LogView
     pub mid : LogView
     pub begun : StartedLog
-    pub number_is : begun.number ≡ number
     pub silo : History
     pub st : IsStarted keeps (started version opened) sends (since view mid) begun silo
     pub passes : Known → PassesAll sends start old passed (started version opened) view × (view.acts ≡ Some [])
     pub there : Option (List ℕ)
     pub during : Option (List ℕ)
     pub done : IfSome from (λ input. AnswersPart keeps version.logic sends input (lines_passed passed) first silo there before during)
+
+  -- What was answered since is in that one.
+  pub record Segments (left : Option (List ℕ)) (now : History) (after : Option (List ℕ)) (count : ℕ) (number : List ℕ) (place : LogPlace) (log : LogView) : Type 0 where
+    pub last : LastLog
+    pub open last use *
+    pub number_is : begun.number ≡ number
     pub begins : Option (List Act)
     pub same : Known → begins ≡ mid.acts
     pub standing : Known → log.begun ≡ mid.begun
@@ -138,19 +143,21 @@ module _ (keeps : Bool) (version : Version) (setup : Setup) (sends : ℕ) (synce
   pub begins_so : (mid log : LogView) (begun : StartedLog) (st : IsStarted keeps start sends (since old mid) begun first) → AllIdle first.whole.entries
       → (Known → log.acts ≡ mid.acts) → (Known → log.begun ≡ mid.begun) → (Known → log.past ≡ mid.past) → Segments from first before 0 begun.number begun.place log
   begins_so mid log begun st idle same standing past = record {
-    passed = [];
-    opened = setup;
-    words = refl;
-    view = old;
-    mid = mid;
-    begun = begun;
+    last = record {
+      passed = [];
+      opened = setup;
+      words = refl;
+      view = old;
+      mid = mid;
+      begun = begun;
+      silo = first;
+      st = st;
+      passes = λ k. ((refl, refl), knows_acts synced old.acts k);
+      there = from;
+      during = before;
+      done = if_none keeps version.logic sends first before idle from;
+    };
     number_is = refl;
-    silo = first;
-    st = st;
-    passes = λ k. ((refl, refl), knows_acts synced old.acts k);
-    there = from;
-    during = before;
-    done = if_none keeps version.logic sends first before idle from;
     begins = log.acts;
     same = same;
     standing = standing;
@@ -166,19 +173,8 @@ module _ (keeps : Bool) (version : Version) (setup : Setup) (sends : ℕ) (synce
         → RunsOn here version.logic sends place to left rest more now new after later_out log.acts later.acts → total ≡ count + more → later.begun ≡ log.begun → later.past ≡ log.past
         → Segments rest new later_out total number to later
     answers_more here is to rest more total new later_out later run sum begun past = record {
-      passed = s.passed;
-      opened = s.opened;
-      words = s.words;
-      view = s.view;
-      mid = s.mid;
-      begun = s.begun;
+      last = s.last;
       number_is = s.number_is;
-      silo = s.silo;
-      st = s.st;
-      passes = s.passes;
-      there = s.there;
-      during = s.during;
-      done = s.done;
       begins = s.begins;
       same = s.same;
       standing = λ k. begun ∙ s.standing k;
@@ -191,19 +187,8 @@ module _ (keeps : Bool) (version : Version) (setup : Setup) (sends : ℕ) (synce
     -- the silo let go of its history, and nothing else was done
     pub lets_go : (new : History) → MayDrop keeps now new → Segments left new after count number place log
     lets_go new gone = record {
-      passed = s.passed;
-      opened = s.opened;
-      words = s.words;
-      view = s.view;
-      mid = s.mid;
-      begun = s.begun;
+      last = s.last;
       number_is = s.number_is;
-      silo = s.silo;
-      st = s.st;
-      passes = s.passes;
-      there = s.there;
-      during = s.during;
-      done = s.done;
       begins = s.begins;
       same = s.same;
       standing = s.standing;
@@ -354,18 +339,36 @@ module _ (keeps : Bool) (version : Version) (setup : Setup) (sends : ℕ) (synce
         passed_on : LogView → Passed
         passed_on view = record { lines = s.run.lines; next = then_own; view = view }
 
-        done_then : (view : LogView) → IfSome from (λ input. AnswersPart keeps version.logic sends input (lines_passed (s.passed ++ passed_on view ∷ [])) first new left before after)
-        done_then view =
-            subst (λ (ls : List (List ℕ)). IfSome from (λ input. AnswersPart keeps version.logic sends input ls first new left before after)) (sym (lines_more s.passed (passed_on view)))
-            (if_parts keeps keeps version.logic sends (lines_passed s.passed) s.run.lines first s.silo new s.there left before s.during after refl from s.done
-            (if_gone keeps version.logic sends s.run.lines s.silo now new left s.during after gone s.there s.run.answered))
-
-        counted_then : (view : LogView) → count ≡ length (lines_passed (s.passed ++ passed_on view ∷ [])) + 0
-        counted_then view =
-            omega (arith, s.counted, s.run.counted, ap length (lines_more s.passed (passed_on view)), length-append (lines_passed s.passed) s.run.lines)
-
-        st_then : (view : LogView) → (view.acts ≡ Some [] → view.begun ≡ Some (head_text (head_words then_own sends) next.number)) → IsStarted keeps then_own sends (since view view) next new
-        st_then view headed = next_started keeps then_own sends view new next n spelt placed_so headed refl opens idle
+        -- the next log was begun, and this was known of it then
+        next_at : (view : LogView) → (view.acts ≡ Some [] → view.begun ≡ Some (head_text (head_words then_own sends) next.number))
+            → (Known → PassesAll sends start old (s.passed ++ passed_on view ∷ []) then_own view × (view.acts ≡ Some [])) → (Known → later ≡ view)
+            → Segments left new after count next.number next.place later
+        next_at view headed passes is = record {
+          last = record {
+            passed = s.passed ++ passed_on view ∷ [];
+            opened = new.setup;
+            words = same_words;
+            view = view;
+            mid = view;
+            begun = next;
+            silo = new;
+            st = next_started keeps then_own sends view new next n spelt placed_so headed refl opens idle;
+            passes = passes;
+            there = left;
+            during = after;
+            done = subst (λ (ls : List (List ℕ)). IfSome from (λ input. AnswersPart keeps version.logic sends input ls first new left before after)) (sym (lines_more s.passed (passed_on view)))
+                (if_parts keeps keeps version.logic sends (lines_passed s.passed) s.run.lines first s.silo new s.there left before s.during after refl from s.done
+                (if_gone keeps version.logic sends s.run.lines s.silo now new left s.during after gone s.there s.run.answered));
+          };
+          number_is = refl;
+          begins = later.acts;
+          same = λ k. ap (λ (v : LogView). v.acts) (is k);
+          standing = λ k. ap (λ (v : LogView). v.begun) (is k);
+          past = λ k. ap (λ (v : LogView). v.past) (is k);
+          taken = 0;
+          run = runs_none keeps version.logic sends next.place left new after later.acts idle;
+          counted = omega (arith, s.counted, s.run.counted, ap length (lines_more s.passed (passed_on view)), length-append (lines_passed s.passed) s.run.lines);
+        }
 
         by : (k : Bool) → is_known synced old.acts ≡ k → Segments left new after count next.number next.place later
         by true k =
@@ -376,49 +379,7 @@ module _ (keeps : Bool) (version : Version) (setup : Setup) (sends : ℕ) (synce
             let headed : later.begun ≡ Some (head_text (head_words then_own sends) next.number) =
             became.0.at.1 ∙ (λ i. Some (head_text ((s.words ∙ sym same_words) i) ((sym became.2) i))) in
             let one : Passes sends own s.view (passed_on later) = passes_so k later then_own (became.0, ap (started version) (sym became.1)) in
-            record {
-              passed = s.passed ++ passed_on later ∷ [];
-              opened = new.setup;
-              words = same_words;
-              view = later;
-              mid = later;
-              begun = next;
-              number_is = refl;
-              silo = new;
-              st = st_then later (λ e. headed);
-              passes = λ j. (passes_more sends own s.view s.passed start old (passed_on later) (s.passes j).0 one, became.0.at.0);
-              there = left;
-              during = after;
-              done = done_then later;
-              begins = later.acts;
-              same = λ j. refl;
-              standing = λ j. refl;
-              past = λ j. refl;
-              taken = 0;
-              run = runs_none keeps version.logic sends next.place left new after later.acts idle;
-              counted = counted_then later;
-            }
+            next_at later (λ e. headed) (λ j. (passes_more sends own s.view s.passed start old (passed_on later) (s.passes j).0 one, became.0.at.0)) (λ j. refl)
         by false k =
             let never : Known → ⊥ = λ j. true≢false (sym j ∙ k) in
-            record {
-              passed = s.passed ++ passed_on unknown ∷ [];
-              opened = new.setup;
-              words = same_words;
-              view = unknown;
-              mid = unknown;
-              begun = next;
-              number_is = refl;
-              silo = new;
-              st = st_then unknown (λ e. absurd (never_known e));
-              passes = λ j. absurd (never j);
-              there = left;
-              during = after;
-              done = done_then unknown;
-              begins = later.acts;
-              same = λ j. absurd (never j);
-              standing = λ j. absurd (never j);
-              past = λ j. absurd (never j);
-              taken = 0;
-              run = runs_none keeps version.logic sends next.place left new after later.acts idle;
-              counted = counted_then unknown;
-            }
+            next_at unknown (λ e. absurd (never_known e)) (λ j. absurd (never j)) (λ j. absurd (never j))

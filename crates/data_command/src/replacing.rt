@@ -1,6 +1,6 @@
 //! A checkpoint that takes the place of a log.
 
-ghost use Rattle.std.specs.Prelude.{◌≡◌, ◌⊎◌, false, ℕ, List, true, take, IfErr, IfOk, IfSome, OnOk};
+ghost use Rattle.std.specs.Prelude.{◌≡◌, ◌⊎◌, false, ℕ, List, true, length, max, None, Ok, take, IfErr, IfOk, IfSome, OnOk};
 ghost use Rattle.line_answer.specs.Dropped.{MayDrop};
 ghost use Rattle.log_text.specs.Sums.{after, spelled};
 ghost use Rattle.log_host.specs.Acts.{Act};
@@ -9,7 +9,7 @@ ghost use Rattle.silo_checkpoint.specs.Saved.{sum_in};
 ghost use Rattle.command_parts.specs.Setups.{Start, started, version_of};
 ghost use Rattle.data_command.specs.Data.{LogView, Stands, log_view, since};
 ghost use Rattle.data_command.specs.Words.{head_words};
-ghost use Rattle.data_command.specs.inside.Replacing.{AreTexts, GoesOnNext, MayBeReplaced, StaysOn};
+ghost use Rattle.data_command.specs.inside.Replacing.{AreTexts, GoesOnNext, NothingFollows, MayBeReplaced, StaysOn};
 
 use crate::starting::{LOG_ROOM, LogTask, StartedLog, is_same};
 use command_parts::{Cause, DataFiles};
@@ -29,8 +29,9 @@ fn texts_of<L: GrainLogic>(
     task: &LogTask,
     number: &[u8],
 ) -> Result<Option<(Vec<u8>, Vec<u8>)>, AllocError>
-    ensures { IfOk result (λ found. IfSome found (λ texts. AreTexts (version_of L.logic task.now.kinds) task.now.sends number.now
+    ensures texts { IfOk result (λ found. IfSome found (λ texts. AreTexts (version_of L.logic task.now.kinds) task.now.sends number.now
         silo.now.history.setup task.now.words.items texts.0.items texts.1.items)) }
+    ensures none { result ≡ Ok None → NothingFollows (version_of L.logic task.now.kinds) task.now.sends number.now silo.now.history.setup }
 {
     let Ok(follows) = str::from_utf8(number) else {
         return Ok(None);
@@ -53,6 +54,7 @@ fn next_log(text: &[u8], head: &[u8]) -> StartedLog
     ensures name { result.place.name ≡ take 8 (spelled (sum_in text.now)) }
     ensures sum { result.place.sum ≡ after 0 head.now }
     ensures told { result.place.told ≡ 0 }
+    ensures room { result.room ≡ max 16777216 (length text.now) }
 {
     let number = spell(sum_of(text));
     StartedLog {
@@ -89,7 +91,8 @@ pub(crate) fn replace_log<F: DataFiles, L: GrainLogic>(
         → Stands start task.now.sends (since old (log_view F.begun F.acts F.past F.failed files.new)) log.old.number bytes acts }
 
     // The log goes on, or the next one does where the silo opened again.
-    ensures next { OnOk result (StaysOn files.old files.new log.old log.new
+    ensures next { OnOk result (StaysOn (version_of L.logic task.now.kinds) task.now.sends silo.new.history.setup
+        files.old files.new log.old log.new
         ⊎ GoesOnNext (version_of L.logic task.now.kinds) task.now.sends task.now.words.items
         (log_view F.begun F.acts F.past F.failed files.old) (log_view F.begun F.acts F.past F.failed files.new) log.old.number
         silo.old.history silo.new.history log.new) }

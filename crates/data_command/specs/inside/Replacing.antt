@@ -1,5 +1,5 @@
 -- What is known of a log whose place a checkpoint takes, and of the texts of both.
-use Rattle.std.specs.Prelude.{◌≡◌, ◌≢◌, ℕ, List}
+use Rattle.std.specs.Prelude.{◌≡◌, ◌≢◌, ◌⊎◌, ◌^◌, ◌-◌, ℕ, false, List}
 use Rattle.silo_model.specs.Opening.{Setup, opening}
 use Rattle.silo_model.specs.Segments.{untold}
 use Rattle.silo_model.specs.Whole.{Whole}
@@ -8,7 +8,7 @@ use Rattle.answer_model.specs.Idle.{AllIdle}
 use Rattle.log_text.specs.Head.{head_text}
 use Rattle.log_text.specs.Sums.{spelled}
 use Rattle.log_host.specs.Acts.{Act}
-use Rattle.silo_checkpoint.specs.Saved.{HasText, sum_in}
+use Rattle.silo_checkpoint.specs.Saved.{HasText, saved_by, sum_in}
 use Rattle.command_parts.specs.Setups.{Start, Version}
 use Rattle.data_command.specs.Data.{IsReplaced, IsTold, LogClaims, LogView, StandsAt, led_by, place_of, since}
 use Rattle.data_command.specs.Words.{head_words}
@@ -16,7 +16,7 @@ use Rattle.data_command.specs.declared.starting.StartedLog.{StartedLog}
 
 -- The checkpoint's text says with what the silo opened, and the other is the head of a log that goes on from it under another number.
 pub record AreTexts (version : Version) (sends : ℕ) (number : List ℕ) (setup : Setup) (words text head : List ℕ) : Type 0 where
-  pub says : HasText text (record { follows = number; kinds = version.number; sends = sends; setup = setup })
+  pub says : HasText text (saved_by number version.number sends setup)
   pub other : spelled (sum_in text) ≢ number
   pub headed : head ≡ head_text words (spelled (sum_in text))
 
@@ -38,11 +38,23 @@ pub record IsNext (start : Start) (sends : ℕ) (log : LogClaims) (number bytes 
   pub number_is : begun.number ≡ spelled (sum_in is.point)
   pub place_is : begun.place ≡ place_of (head_words start sends) begun.number
 
+-- No checkpoint can follow a log of that number: none says this setup, or the log that would go on from it has the same number.
+abbrev pub NothingFollows : Version → ℕ → List ℕ → Setup → Type 0
+NothingFollows version sends number setup =
+    ((text : List ℕ) → HasText text (saved_by number version.number sends setup) → ⊥)
+    ⊎ ((text : List ℕ) × HasText text (saved_by number version.number sends setup) × (spelled (sum_in text) ≡ number))
+
+-- A log goes on only if it has no lines, or if no checkpoint can follow it: then whatever it gets.
+abbrev pub MayStay : Version → ℕ → Setup → StartedLog → StartedLog → Type 0
+MayStay version sends setup log later =
+    ((log.has_lines ≡ false) × (later.room ≡ log.room)) ⊎ (NothingFollows version sends log.number setup × (later.room ≡ 2 ^ 64 - 1))
+
 -- Nothing was done to the folder, and the log goes on at its place.
-pub record StaysOn {F : Type 0} (old new : F) (log later : StartedLog) : Type 0 where
+pub record StaysOn {F : Type 0} (version : Version) (sends : ℕ) (setup : Setup) (old new : F) (log later : StartedLog) : Type 0 where
   pub same : new ≡ old
   pub place : later.place ≡ log.place
   pub number : later.number ≡ log.number
+  pub may : MayStay version sends setup log later
 
 -- The silo opened again, and the log goes on from there, behind its head; if it took the place of one that was known, it did so by a
 -- checkpoint.

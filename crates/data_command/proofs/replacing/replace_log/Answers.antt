@@ -1,11 +1,11 @@
-use Rattle.std.proofs.Common.{◌≡◌, ◌∙◌, List, ap, inr, subst, sym, take, ℕ}
+use Rattle.std.proofs.Common.{◌≡◌, ◌∙◌, List, Ok, ap, inl, inr, refl, subst, sym, take, ℕ}
 use Rattle.log_text.specs.Head.{head_text}
 use Rattle.log_text.specs.Sums.{after, spelled}
 use Rattle.log_host.specs.Files.{MaySwitch, Switches}
 use Rattle.silo_checkpoint.specs.Saved.{sum_in}
 use Rattle.command_parts.specs.Setups.{version_of}
 use Rattle.data_command.specs.Data.{log_view, place_of}
-use Rattle.data_command.specs.inside.Replacing.{AreTexts}
+use Rattle.data_command.specs.inside.Replacing.{AreTexts, NothingFollows}
 use Rattle.data_command.proofs.Replaced.{at_opening, next_is, switched, switched_or_not}
 use Rattle.data_command.proofs.Starts.{placed}
 use Rattle.data_command.proofs.replacing.replace_log.Goals as goal
@@ -21,7 +21,7 @@ returns-in-Ok-switch-clause-stands g c start old bytes acts m =
     let new = c.reopen.new.self.history in
     let first = rw c.in-Ok-true.is at c.reopen.ensures.reopens in
     let reopened = rw c.in-Ok-true.field-0-test at first in
-    let texts = rw c.in-Some.is at c.in-Ok.ensures in
+    let texts = rw c.in-Some.is at c.in-Ok.ensures.texts in
     let text = c.in-Some.text.items in
     let head = c.in-Some.head.items in
     let both = subst (λ (m : List ℕ). AreTexts version sends m new.setup words text head) c.as_slice.ensures texts in
@@ -41,7 +41,7 @@ returns-clause-stands g c start old bytes acts m =
     let new = c.reopen.new.self.history in
     let first = rw c.in-Ok-true.is at c.reopen.ensures.reopens in
     let reopened = rw c.in-Ok-true.field-0-test at first in
-    let texts = rw c.in-Some.is at c.in-Ok.ensures in
+    let texts = rw c.in-Some.is at c.in-Ok.ensures.texts in
     let text = c.in-Some.text.items in
     let head = c.in-Some.head.items in
     let both = subst (λ (m : List ℕ). AreTexts version sends m new.setup words text head) c.as_slice.ensures texts in
@@ -61,7 +61,7 @@ returns-in-Ok-switch-clause-next g c =
     let new = c.reopen.new.self.history in
     let first = rw c.in-Ok-true.is at c.reopen.ensures.reopens in
     let reopened = rw c.in-Ok-true.field-0-test at first in
-    let texts = rw c.in-Some.is at c.in-Ok.ensures in
+    let texts = rw c.in-Some.is at c.in-Ok.ensures.texts in
     let text = c.in-Some.text.items in
     let head = c.in-Some.head.items in
     let both = subst (λ (m : List ℕ). AreTexts version sends m new.setup words text head) c.as_slice.ensures texts in
@@ -81,4 +81,17 @@ returns-in-Ok-switch-clause-next g c =
       idle = c.journal-2.ensures.idle (c.reopen.ensures.stopped ∙ c.requires.ready);
       is = λ start from bytes acts m.
           next_is start version sends words number from mid bytes acts c.args.silo.now.history new m c.requires.words reopened opened text head both after_it c.next_log.result spelt at switch;
+    })
+
+pub returns-in_default-texts-clause-next : goal.returns-in_default-texts-clause-next
+returns-in_default-texts-clause-next g c =
+    inl (record {
+      same = refl;
+      place = refl;
+      number = refl;
+      may = inr (
+        subst (λ (n : List ℕ). NothingFollows (version_of g.L.GrainLogic.logic c.args.task.now.kinds) c.args.task.now.sends n c.reopen.new.self.history.setup) c.as_slice.ensures
+            (c.in-Ok.ensures.none (ap Ok c.in_default-texts.is)),
+        refl,
+      );
     })
