@@ -46,13 +46,6 @@ def with_option(words: Sequence[str]) -> list:
     return [*words[:3], "--checkpoints", *words[3:]]
 
 
-# ---- starts and ends
-
-STARTS = [
-    row("the log that the checkpoint replaced is passed over, whatever words it has",
-        {**STALE, "d/log": log_of(words=WORDS._replace(age=1))}, [], [], BEHIND),
-]
-
 # ---- other words
 
 WAITING = with_option(AT_ONCE)
@@ -166,7 +159,7 @@ LISTED = [
     Row("no tenant", ["rows", "d", "Red"], [], [], 2, "error: no tenant"),
 ]
 
-SWITCHED: list[Row] = [*(it._replace(words=with_option(it.words)) for it in OF_BOTH_FORMS), *STARTS, *OTHER_WORDS, *REFUSED, *LISTED]
+SWITCHED: list[Row] = [*(it._replace(words=with_option(it.words)) for it in OF_BOTH_FORMS), *OTHER_WORDS, *REFUSED, *LISTED]
 
 
 # ---- runs

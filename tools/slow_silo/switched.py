@@ -84,8 +84,8 @@ def look_for_log(it: Beside) -> None:
 
 
 def look_at_head(it: Beside) -> None:
-    """The log has the checkpoint's words. The one that it replaced may have other tenants, if these come and go by lines."""
-    if not (it.words.operator and it.has_replaced_log()):
+    """The log has the checkpoint's words. The one that it replaced may have any."""
+    if not it.has_replaced_log():
         cut_head(it.words, it.log)
 
 

@@ -91,9 +91,9 @@ module _ (start : Start) (sends : ℕ) (old now : LogView) (log : Option (List �
       }
 
       -- another log was begun
-      pub opens_old : (bytes : List ℕ) → log ≡ Some bytes → HasNumber words saved.follows bytes → (new : LogView) → Begins now.acts new.acts new.begun (head_text words (spelled (sum_in point))) → new.past ≡ now.past
+      pub opens_old : (bytes : List ℕ) → log ≡ Some bytes → (before : List ℕ) → HasNumber before saved.follows bytes → (new : LogView) → Begins now.acts new.acts new.begun (head_text words (spelled (sum_in point))) → new.past ≡ now.past
           → OpensAt start sends old new (started start.version saved.setup)
-      opens_old bytes there has new begins past = record {
+      opens_old bytes there before has new begins past = record {
         version = refl;
         words = says_same saved words worded same;
         from = inr (record {
@@ -102,8 +102,9 @@ module _ (start : Start) (sends : ℕ) (old now : LogView) (log : Option (List �
           follows = saved.follows;
           says = says_own;
           log = inr (record {
+            words = before;
             rest = has.0;
-            found = λ e. sym (there ∙ ap Some (has.1 ∙ ap (λ (ws : List ℕ). head_text ws saved.follows ++ has.0) worded)) ∙ f.log_is e;
+            found = λ e. sym (there ∙ ap Some has.1) ∙ f.log_is e;
             begun = λ e. (
               subst (λ (ws : List ℕ). IsAt new.acts new.begun (Some (head_text ws (spelled (sum_in point))))) worded (begins (known e)),
               past ∙ (f.left e).1,
@@ -113,9 +114,9 @@ module _ (start : Start) (sends : ℕ) (old now : LogView) (log : Option (List �
       }
 
       -- or it wasn't
-      pub lasts_old : (bytes : List ℕ) → log ≡ Some bytes → HasNumber words saved.follows bytes → (new : LogView) → MayBegin now.acts now.begun new.acts new.begun (head_text words (spelled (sum_in point))) → new.past ≡ now.past
+      pub lasts_old : (bytes : List ℕ) → log ≡ Some bytes → (before : List ℕ) → HasNumber before saved.follows bytes → (new : LogView) → MayBegin now.acts now.begun new.acts new.begun (head_text words (spelled (sum_in point))) → new.past ≡ now.past
           → FolderLasts start sends (since old new)
-      lasts_old bytes there has new may past e = by (may (known e))
+      lasts_old bytes there before has new may past e = by (may (known e))
         where
           by : IsAt new.acts new.begun now.begun ⊎ IsAt new.acts new.begun (Some (head_text words (spelled (sum_in point))))
               → (IsAt new.acts new.begun old.begun × (new.past ≡ old.past)) ⊎ FromFolder start sends old (λ own view. RunLasts own sends (since view new))
@@ -123,7 +124,7 @@ module _ (start : Start) (sends : ℕ) (old now : LogView) (log : Option (List �
           by (inr at) = inr (record {
             own = started start.version saved.setup;
             view = new;
-            opens = opens_old bytes there has new (λ _. at) past;
+            opens = opens_old bytes there before has new (λ _. at) past;
             holds = λ k. inl ((k, refl), refl);
           })
 

@@ -47,10 +47,12 @@ module _ (start : Start) (sends : ℕ) where
       pub found : IsFound (since old view) (Some (own_head (spelled (sum_in point)) ++ rest))
       pub left : LeavesLog (since old view)
 
-    -- The log is the one whose place the checkpoint takes: a start ended in between. Now it has its own log, without a batch.
+    -- The log is the one whose place the checkpoint takes, whatever words it has: a start ended in between. Now the checkpoint has its own
+    -- log, without a batch.
     pub record HadOldLog (point follows : List ℕ) : Type 0 where
+      pub words : List ℕ
       pub rest : List ℕ
-      pub found : IsFound (since old view) (Some (own_head follows ++ rest))
+      pub found : IsFound (since old view) (Some (head_text words follows ++ rest))
       pub begun : old.acts ≡ Some [] → IsAt view.acts view.begun (Some (own_head (spelled (sum_in point)))) × (view.past ≡ old.past)
 
     -- The checkpoint says with what a silo goes on, under the same words.

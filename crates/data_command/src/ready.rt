@@ -1,6 +1,7 @@
 //! The silo with which a folder of data is gone on with.
 
-ghost use Rattle.std.specs.Prelude.{◌≡◌, ◌↔◌, ◌⊎◌, [], false, true, IfErr, IfOk, IfSome, IsTrue, None, Ok, OnErr, OnOk, Some, option_map};
+ghost use Rattle.std.specs.Prelude.{◌≡◌, ◌↔◌, ◌⊎◌, ℕ, [], false, true, List, None, Ok, Some, option_map};
+ghost use Rattle.std.specs.Prelude.{IfErr, IfOk, IfSome, IsTrue, OnErr, OnOk};
 ghost use Rattle.silo_model.specs.Opening.{opening};
 ghost use Rattle.grain_storage.specs.Memory.{AreVersioned, IsAscending};
 ghost use Rattle.silo_state.specs.KeptParts.{MayResume};
@@ -100,14 +101,43 @@ fn says_words(
     Ok(saved.kinds == kinds && saved.sends == sends && is_same(own.as_slice(), words))
 }
 
+/// Bytes of the line with which each log begins.
+const FORM_BYTES: usize = 11;
+
+/// Whether the bytes are those of a log of that number whose head has these words.
+fn is_headed(words: &[u8], number: &[u8], log: &[u8]) -> bool
+    ensures { result ≡ true → HasNumber words.now number.now log.now }
+{
+    match cut_head(words, log) {
+        Some((digits, _)) => is_same(digits, number),
+        None => false,
+    }
+}
+
+/// Whether the bytes are those of a log of that number, whatever words its head has: none of their lines begins with `of `, as the one
+/// with the number does.
+fn has_number(number: &[u8], log: &[u8]) -> bool
+    ensures { result ≡ true → (words : List ℕ) × HasNumber words number.now log.now }
+{
+    'bytes: for at in FORM_BYTES..log.len() {
+        if log[at - 1] == b'\n' && log[at..].starts_with(b"of ") {
+            return is_headed(&log[FORM_BYTES..at], number, log);
+        }
+    }
+    false
+}
+
 /// Whether the log that stands beside a checkpoint goes on from it, and has its number; or whether it is the one whose place the
-/// checkpoint takes.
+/// checkpoint takes, whatever words that has.
 fn is_own_log(words: &[u8], number: u64, follows: &str, log: &[u8]) -> Result<bool, DataFault>
     ensures own { result ≡ Ok true → HasNumber words.now (spelled number) log.now }
-    ensures old { result ≡ Ok false → HasNumber words.now follows.now log.now }
+    ensures old { result ≡ Ok false → (before : List ℕ) × HasNumber before follows.now log.now }
     ensures fault { IfErr result (λ why. IsWrongLog words.now (spelled number) follows.now log.now why) }
 {
     let Some((digits, behind)) = cut_head(words, log) else {
+        if has_number(follows.as_bytes(), log) {
+            return Ok(false);
+        }
         if is_log(log) {
             return Err(DataFault::OtherWords);
         }

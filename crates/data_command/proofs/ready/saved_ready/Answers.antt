@@ -142,14 +142,13 @@ returns-clause-opens g c = if_ok_is c.begun_anew.result _ (λ r is old f.
     let saved = saved_in c.in-Ok.saved in
     let same = subst (λ (ws : List ℕ). SaysWords saved version.number sends ws) c.as_slice.ensures.value (c.in_ok-says_words.ensures.0 c.if-not-branch.false) in
     let old_log = c.in_ok-is_own.ensures.old (ap Ok c.if-is_own.false) in
-    let has : HasNumber c.args.words.items saved.follows c.in-Some.found.items =
-    (old_log.0, sym c.as_slice-3.ensures.value ∙ old_log.1 ∙ ap (λ (ws : List ℕ). head_text ws saved.follows ++ old_log.0) c.as_slice-2.ensures.value) in
+    let has : HasNumber old_log.0 saved.follows c.in-Some.found.items = (old_log.1.0, sym c.as_slice-3.ensures.value ∙ old_log.1.1) in
     let there = ap (option_map (λ (bytes : Vec ℕ Global). bytes.items)) c.in-Some.is in
     let silo_is = rw is at c.begun_anew.ensures.silo in
     let begun = subst (λ (n : ℕ). Begins now.acts new.acts new.begun (head_text c.args.words.items (spelled n))) c.sum_of-number.ensures (rw is at c.begun_anew.ensures.begun) in
     let setup = rw (sym silo_is) at (rw c.in-Some-2.is at c.in_ok-silo.ensures.setup) in
     subst (λ (s : Setup). OpensAt start sends old new (started version s)) (sym setup)
-    (opens_old start sends old now log c.args.point.now f saved c.in-Ok.ensures.read c.args.words.items c.requires same c.in-Some.found.items there has new begun c.begun_anew.ensures.past))
+    (opens_old start sends old now log c.args.point.now f saved c.in-Ok.ensures.read c.args.words.items c.requires same c.in-Some.found.items there old_log.0 has new begun c.begun_anew.ensures.past))
 
 pub returns-clause-lasts : goal.returns-clause-lasts
 returns-clause-lasts g c = on_err_so c.begun_anew.result _ _ (λ may old f.
@@ -162,8 +161,7 @@ returns-clause-lasts g c = on_err_so c.begun_anew.result _ _ (λ may old f.
     let saved = saved_in c.in-Ok.saved in
     let same = subst (λ (ws : List ℕ). SaysWords saved version.number sends ws) c.as_slice.ensures.value (c.in_ok-says_words.ensures.0 c.if-not-branch.false) in
     let old_log = c.in_ok-is_own.ensures.old (ap Ok c.if-is_own.false) in
-    let has : HasNumber c.args.words.items saved.follows c.in-Some.found.items =
-    (old_log.0, sym c.as_slice-3.ensures.value ∙ old_log.1 ∙ ap (λ (ws : List ℕ). head_text ws saved.follows ++ old_log.0) c.as_slice-2.ensures.value) in
+    let has : HasNumber old_log.0 saved.follows c.in-Some.found.items = (old_log.1.0, sym c.as_slice-3.ensures.value ∙ old_log.1.1) in
     let there = ap (option_map (λ (bytes : Vec ℕ Global). bytes.items)) c.in-Some.is in
     let may_begin = subst (λ (n : ℕ). MayBegin now.acts now.begun new.acts new.begun (head_text c.args.words.items (spelled n))) c.sum_of-number.ensures may in
-    lasts_old start sends old now log c.args.point.now f saved c.in-Ok.ensures.read c.args.words.items c.requires same c.in-Some.found.items there has new may_begin c.begun_anew.ensures.past) c.begun_anew.ensures.err
+    lasts_old start sends old now log c.args.point.now f saved c.in-Ok.ensures.read c.args.words.items c.requires same c.in-Some.found.items there old_log.0 has new may_begin c.begun_anew.ensures.past) c.begun_anew.ensures.err
