@@ -244,6 +244,7 @@ module _ (start : Start) (sends : ℕ) where
     StartFailsBy (data_fault.Failed why) = ⊥
     StartFailsBy data_fault.NoCheckpoint = ⊥
     StartFailsBy data_fault.NoLog = ⊥
+    StartFailsBy (data_fault.HasTenant name) = ⊥
     StartFailsBy data_fault.OtherWords = LeavesLog log × HasOtherWords
     StartFailsBy (data_fault.Refused line) = LeavesLog log × ((IsNoLog × (line ≡ 1)) ⊎ RefusesLine line)
     StartFailsBy (data_fault.Otherwise line) = LeavesLog log × TellsOtherwiseAt line

@@ -14,6 +14,7 @@ pub mod laws;
 mod opening;
 mod ready;
 mod replacing;
+mod reworded;
 mod starting;
 
 pub use answering::answer_data;

@@ -203,7 +203,7 @@ fn new_ready<L: GrainLogic + Drop>(
 }
 
 /// The silo, with a new log in the place of the one that is there.
-fn begun_anew<L: GrainLogic + Drop, F: DataFiles>(
+pub(crate) fn begun_anew<L: GrainLogic + Drop, F: DataFiles>(
     alloc: Global,
     files: &mut F,
     silo: AnsweringSilo<MemoryStorage, L>,

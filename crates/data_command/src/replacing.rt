@@ -23,7 +23,7 @@ use std::alloc::{AllocError, Global};
 
 /// The text of a checkpoint that says what the silo has, and the head of the log that goes on from it; none if no checkpoint can say it,
 /// or if the new log would have the number of the old one.
-fn texts_of<L: GrainLogic>(
+pub(crate) fn texts_of<L: GrainLogic>(
     alloc: Global,
     silo: &AnsweringSilo<MemoryStorage, L>,
     task: &LogTask,

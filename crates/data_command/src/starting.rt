@@ -99,7 +99,7 @@ fn again_fault(head: &[u8], fault: AgainFault) -> DataFault
 
 /// Cuts a log that has these bytes to its first `length` bytes, if it has more.
 #[tactic(auto, using(crate::proofs::Starts::uncut))]
-fn cut_end<F: DataFiles>(files: &mut F, bytes: &[u8], length: usize) -> Result<(), HostFault>
+pub(crate) fn cut_end<F: DataFiles>(files: &mut F, bytes: &[u8], length: usize) -> Result<(), HostFault>
     ensures ok { F.begun files.old ≡ Some bytes.now
         → OnOk result (Cuts (F.acts files.old) (F.begun files.old) (F.acts files.new) (F.begun files.new) length) }
     ensures err { OnErr result (MayCut (F.acts files.old) (F.begun files.old) (F.acts files.new) (F.begun files.new) length) }
@@ -127,6 +127,30 @@ fn digits_of(number: &[u8]) -> [u8; 16]
     let mut digits = [0; 16];
     digits.copy_from_slice(number);
     digits
+}
+
+/// Answers the lines of a log again that has the task's words. Returns how many bytes it has up to the end of its last batch.
+pub(crate) fn answered_again<L: GrainLogic>(
+    alloc: Global,
+    silo: &mut AnsweringSilo<MemoryStorage, L>,
+    task: &LogTask,
+) -> Result<usize, DataFault>
+    requires ready { silo.old.stopped ≡ false }
+    ensures ready { OnOk result (silo.new.stopped ≡ false) }
+    ensures keeps { silo.new.keeps ≡ silo.old.keeps }
+{
+    let Some(bytes) = &task.log else {
+        return Ok(0);
+    };
+    let Some((number, behind)) = cut_head(task.words.as_slice(), bytes.as_slice()) else {
+        return Err(DataFault::OtherWords);
+    };
+    let head = &bytes.as_slice()[..bytes.len() - behind.len()];
+    let place = LogPlace::behind_head(number, head);
+    match answer_again(alloc, silo, task.sends, place, behind) {
+        Ok(again) => Ok(head.len() + again.length),
+        Err(why) => Err(again_fault(head, why)),
+    }
 }
 
 /// Answers the lines of a log again, and cuts off what follows its last batch.
