@@ -1,6 +1,6 @@
 -- How a folder of data opens, and what a run makes of it: with what a silo goes on, and where its log goes on.
 use Rattle.std.specs.Prelude.{◌≡◌, ◌≢◌, ◌⊎◌, ◌++◌, ℕ, Bool, true, List, [], length, IfSome, Option, None, Some}
-use Rattle.std.specs.Ordering.{Greater}
+use Rattle.std.specs.declared.cmp.Ordering.TheVariants.{Greater}
 use Rattle.std.specs.FinMap.{entries}
 use Rattle.grain_id.specs.Names.{text_cmp}
 use Rattle.tenant_gate.specs.Table.{Table, limits_of}

@@ -1,6 +1,5 @@
 -- A silo of other tables that goes on from another.
 use Rattle.std.specs.Prelude.{◌≡◌, ◌≢◌, ◌⊎◌, List, ℕ, Option, None, Some}
-use Rattle.std.specs.Ordering.{Greater}
 use Rattle.grain_id.specs.Names.{text_cmp}
 use Rattle.tenant_gate.specs.Table.{Table}
 use Rattle.silo_model.specs.Opening.{Setup, opening}
