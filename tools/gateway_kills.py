@@ -96,8 +96,10 @@ class Arena:
             gateway.close()
 
     def _start(self) -> None:
-        further = ["--data", os.fspath(self._room / "data")] if self.keeps else []
-        self._gateways.append(Gateway("--sweep", "0.5", tenants=TENANTS, further=further, folder=self._room / "sockets"))
+        words = ["--data", os.fspath(self._room / "data")] if self.keeps else []
+        # a sweep drops what nobody saved and nobody called for the age: a thousand kills take longer than the usual one
+        further = ["--age", "86400000"]
+        self._gateways.append(Gateway("--sweep", "0.5", *words, tenants=TENANTS, further=further, folder=self._room / "sockets"))
 
     def _asking(self) -> Asking:
         self._lives += 1

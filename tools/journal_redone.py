@@ -5,6 +5,7 @@ A journal doesn't say of a `begin` which request it opens, nor of a reply at whi
 
 from __future__ import annotations
 
+from functools import partial
 from typing import NamedTuple, Optional, Union
 
 from slow_silo.audit import machine_of
@@ -38,6 +39,10 @@ class Done(NamedTuple):
     replies: list[Reply]
 
 
+# to make a tuple so takes a third of the time that its class takes
+DONE = partial(tuple.__new__, Done)
+
+
 class Redone:
     """One tenant's machine, stepped once more up to the first step that isn't possible."""
 
@@ -55,21 +60,22 @@ class Redone:
         machine, kind = self.machine, type(step)
         sent = self.sent_by(step) if kind is Deliver else None
         grain = getattr(step, "grain", None) if sent is None else sent.target
-        count, waiting, entry = machine.count, len(machine.sends), machine.entries.get(grain)
+        held, count, waiting = machine.entries, machine.count, len(machine.sends)
+        entry = held.get(grain)
         request = turn_of(step, entry) if entry is not None and kind in OPENS_OR_CLOSES else None
-        held = list(machine.entries) if kind is Sweep else []
         replies = machine.step(step)
         self.steps += 1
         self.stopped = replies is None
         if replies is None:
             return None
         self.replies += replies
+        entries = machine.entries
         if machine.count > count:
-            request = machine.entries[grain].queue[-1]
+            request = entries[grain].queue[-1]
         sends = len(machine.sends) - waiting if kind is End else 0
-        gone = sorted(one for one in held if one not in machine.entries) if held else \
-            [grain] if entry is not None and grain not in machine.entries else []
-        return Done(number, step, grain, entry, request, sent, sends, gone, replies)
+        # a sweep makes others of the entries, and leaves those before as they were
+        gone = sorted(held.keys() - entries.keys()) if kind is Sweep else [grain] if entry is not None and grain not in entries else []
+        return DONE((number, step, grain, entry, request, sent, sends, gone, replies))
 
     def sent_by(self, step: Step) -> Optional[Send]:
         """What a delivery takes: the oldest call that its grain sent."""

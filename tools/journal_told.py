@@ -2,6 +2,7 @@
 
 from __future__ import annotations
 
+from functools import partial
 from typing import Iterator, NamedTuple, Optional
 
 from journal_members import done_members, report_members, row_members, step_members
@@ -37,6 +38,10 @@ class ToldStep(NamedTuple):
         return {**step_members(self.number, self.step), "tenant": self.part.machine.tenant, "possible": False}
 
 
+# to make a tuple so takes a third of the time that its class takes
+TOLD_STEP = partial(tuple.__new__, ToldStep)
+
+
 class ToldRow(NamedTuple):
     grain: Grain
     row: Row
@@ -70,10 +75,11 @@ def told_steps(journal: Journal, parts: dict[str, Redone]) -> Iterator[ToldStep]
     """Each step of these tenants and of nobody, up to the first that isn't possible."""
     for number, step in enumerate(journal.steps, 1):
         own = owner(step)
-        if own is None:
+        part = parts.get(own)
+        if part is not None and not part.stopped:
+            yield TOLD_STEP((number, step, part.take(number, step), part))
+        elif own is None:
             yield from told_of_all(number, step, [part for part in parts.values() if not part.stopped])
-        elif own in parts and not parts[own].stopped:
-            yield ToldStep(number, step, parts[own].take(number, step), parts[own])
 
 
 def told_of_all(number: int, step: Step, parts: list[Redone]) -> Iterator[ToldStep]:

@@ -9,6 +9,7 @@ from typing import Optional
 from journal_redone import Done
 from slow_silo.replies import object_of
 from slow_silo.machine import READY, Machine
+from slow_silo.names import Caller
 from slow_silo.steps import (Abandon, Activate, Begin, Call, Client, Deliver, End, Load, Poke, Refuse, Reply, Status, Store,
                              Sweep, Tick)
 from slow_silo.storage import CLEARED, Row
@@ -54,7 +55,11 @@ def argument_words(args: object) -> str:
 
 def who(asker: object) -> str:
     """A client with the number under which it asked, or a grain."""
-    return f"{asker.caller.text()} (its {asker.id})" if isinstance(asker, Client) else asker.text()
+    return numbered(*asker) if isinstance(asker, Client) else asker.text()
+
+
+def numbered(caller: Caller, number: int) -> str:
+    return f"{caller.text()} (its {number})"
 
 
 def told(reply: Reply) -> str:
@@ -63,14 +68,15 @@ def told(reply: Reply) -> str:
 
 # ---- the words of each kind of step
 
-def asked(done: Done, asker: object, what: str) -> str:
+def asked(done: Done, asker: str, what: str) -> str:
     """What somebody asked, and under which number of the tenant it was accepted, or what was answered at once."""
-    came = [f", as request {done.request.number}"] if done.request else [f": {told(reply)}" for reply in done.replies]
-    return f"{who(asker)} {what}" + "".join(came)
+    if done.request is not None:
+        return f"{asker} {what}, as request {done.request.number}"
+    return f"{asker} {what}" + "".join([f": {told(reply)}" for reply in done.replies])
 
 
 def by_client(done: Done, what: str) -> str:
-    return asked(done, Client(done.step.caller, done.step.id), what)
+    return asked(done, numbered(done.step.caller, done.step.id), what)
 
 
 def call_words(done: Done, _machine: Machine) -> str:
@@ -84,20 +90,21 @@ def poke_words(done: Done, _machine: Machine) -> str:
 
 def deliver_words(done: Done, _machine: Machine) -> str:
     sent = done.sent
-    return asked(done, done.step.grain, f"asked {sent.target.text()} to {message_words(sent.method, sent.args)}")
+    return asked(done, done.step.grain.text(), f"asked {sent.target.text()} to {message_words(sent.method, sent.args)}")
 
 
 def came_to(done: Done, what: str) -> str:
     """What came of requests that were accepted before, and who was told."""
-    if not done.replies:
-        return what
-    return "; ".join([what, *(f"{who(reply.to)} was {told(reply)}" for reply in done.replies)])
+    for reply in done.replies:
+        what += f"; {who(reply.to)} was {told(reply)}"
+    return what
 
 
 def turn_came_to(done: Done, what: str) -> str:
     """What a turn came to. The activation goes with it if it rests and is idle then."""
-    went = ", and the activation went, since it rests" if done.gone and done.entry.phase == READY else ""
-    return came_to(done, f"request {done.request.number} of {done.grain.text()} {what}{went}")
+    if done.gone and done.entry.phase == READY:
+        what += ", and the activation went, since it rests"
+    return came_to(done, f"request {done.request.number} of {done.grain.text()} {what}")
 
 
 def load_words(done: Done, machine: Machine) -> str:
@@ -113,8 +120,9 @@ def begin_words(done: Done, _machine: Machine) -> str:
 
 
 def end_words(done: Done, _machine: Machine) -> str:
-    calls = {0: "", 1: ", and one call was sent"}.get(done.sends, f", and {done.sends} calls were sent")
-    return turn_came_to(done, f"ended{calls}")
+    if not done.sends:
+        return turn_came_to(done, "ended")
+    return turn_came_to(done, "ended, and one call was sent" if done.sends == 1 else f"ended, and {done.sends} calls were sent")
 
 
 def store_words(done: Done, _machine: Machine) -> str:

@@ -96,7 +96,7 @@ class Kept(Data):
             self.add(silo)
         log = self.data / "log"
         before = log.read_bytes()
-        for text, words, status, told in ((b"what", ["red:4:4"], 4, "log line 1 is refused"), (before, ["red:5:5"], 2, "other words")):
+        for text, words, status, told in ((b"what", ["red:4:4"], 4, "log line 1 is refused"), (before, ["blue:5:5"], 2, "the data have the tenant red")):
             log.write_bytes(text)
             silo = Silo(*words, data=self.data, program=beside.program, timeout=SECONDS)
             self.assertTrue(silo._connection._over.wait(SECONDS))

@@ -19,7 +19,7 @@ from silo.gateway.lane import HALF_LIFE, MOST_AT_FIRST, Costs, Lane
 from silo.gateway.pieces import Pieces
 from silo.gateway.replied import keys_of, says_no_request, tenant_told
 from silo.gateway.told import NOT_NOW
-from silo.lines import StrangeReply
+from silo.lines import FENCE, StrangeReply
 
 from .gateways import call, echo
 
@@ -184,16 +184,39 @@ class Turns(unittest.TestCase):
         self.answer(1, 0.004)
         self.assertEqual(lane.written, MOST_AT_FIRST)
         self.answer(MOST_AT_FIRST + 5, 0.004)
-        self.assertEqual(lane.written, 1)
+        self.assertEqual(lane.most_written, 1)
         # nor do lines that take little hide that, but time does
         self.answer(100, 0.0)
-        self.assertEqual(lane.written, 1)
+        self.assertEqual(lane.most_written, 1)
         later = time.monotonic() + 2 * HALF_LIFE
         with mock.patch("silo.gateway.desk.time.monotonic", lambda: later):
             for _ in range(8):
                 self.answer(1, 0.0)
         self.assertEqual(lane.written, 256)
-        self.assertEqual([said["id"] for said in guest.heard], [*range(MOST_AT_FIRST + 114)])
+        # behind each dear line stands a fence, which nobody is told of
+        self.assertEqual([said["id"] for said in guest.heard], [*range(len(guest.heard))])
+        self.assertTrue(MOST_AT_FIRST + 50 < len(guest.heard) < MOST_AT_FIRST + 114)
+
+    def test_the_line_behind_a_dear_one_waits_for_what_that_one_sent(self) -> None:
+        red, blue = (Kept(self.desk, self.lanes[name]) for name in ("red", "blue"))
+        for _ in range(10):
+            red.lane.weigh(1, 0.01, 1, time.monotonic())
+        red.take(call(1) + call(2))
+        blue.take(call(3, "blue/web"))
+        given = [call(1)[:-1], FENCE[:-1], call(3, "blue/web")[:-1]]
+        self.assertEqual(self.written, given)
+        self.desk.feed(reply_to(given[0]))
+        self.worked += 0.01
+        self.desk.feed(b'{"error":40,"from":"relay/red:r","text":"x"}\n')
+        self.assertEqual((self.written, [said.get("id") for said in red.heard]), (given, [1, None]))
+        self.desk.feed(reply_to(given[1]))
+        self.assertEqual(self.written[3:], [call(2)[:-1], FENCE[:-1]])
+        self.desk.feed(reply_to(given[2]))
+        # what was sent is red's, and not of whoever is answered next
+        self.assertEqual([lane.most_written for lane in (red.lane, blue.lane)], [1, 16])
+        self.desk.lose()
+        self.assertEqual(([said.get("error") for said in red.heard], len(blue.heard)), ([None, 40, 90], 1))
+        self.assertEqual((self.desk.is_idle, red.lane.held, red.lane.written, red.lane.lost), (True, 0, 0, 1))
 
     def test_a_line_that_takes_long_now_and_then_counts_for_nothing(self) -> None:
         lane = self.lanes["red"]

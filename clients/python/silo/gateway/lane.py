@@ -98,6 +98,11 @@ class Lane:
         return bool(self._turns) and self.written < self.most_written
 
     @property
+    def is_dear(self) -> bool:
+        """Whether its lines were found to take long."""
+        return self.costs.most < MOST_AT_FIRST
+
+    @property
     def guests_in_turn(self) -> int:
         """How many of its connections wait for their turn."""
         return len(self._turns)

@@ -48,7 +48,7 @@ class Service:
         _, most = resource.getrlimit(resource.RLIMIT_NOFILE)
         resource.setrlimit(resource.RLIMIT_NOFILE, (most, most))
         keeping = asyncio.ensure_future(self.keeper.run())
-        aside = [asyncio.ensure_future(it) for it in (self.clock.run(), self.keeper.watch())]
+        aside = [asyncio.ensure_future(it) for it in (self.clock.run(), self.keeper.watch(), self.watched.run())]
         asked = asyncio.ensure_future(self._is_asked_to_end.wait())
         try:
             await self._open()

@@ -2,11 +2,13 @@
 
 from __future__ import annotations
 
+import contextlib
 import os
 import pathlib
 import time
 from typing import Callable, Dict, List, Optional, Tuple
 
+from silo.gateway.checkpoint import Last
 from silo.gateway.clock import Clock
 from silo.gateway.desk import Desk
 from silo.gateway.doors import OPERATOR_NAME, Doors
@@ -17,6 +19,9 @@ from silo.gateway.lane import Lane
 # how late the answer to a tick may be before the gateway is said to be unwell
 MOST_SECONDS_LATE = 5.0
 
+# what is told of a checkpoint, by the names of its counts
+FIGURES_OF_A_CHECKPOINT = {"rows": "Rows", "idle_grains": "Active grains, all idle,", "sends": "Sends that weren't delivered"}
+
 Samples = List[Tuple[Dict[str, str], float]]
 
 
@@ -25,7 +30,13 @@ class Watched:
 
     def __init__(self, desk: Desk, keeper: Keeper, clock: Clock, doors: Doors, data: Optional[pathlib.Path]) -> None:
         self._desk, self._keeper, self._clock, self._doors, self._data = desk, keeper, clock, doors, data
+        self._last = None if data is None else Last(data)
         self.is_ending = False
+
+    async def run(self) -> None:
+        """Reads what is told of checkpoints. Until it is cancelled."""
+        if self._last is not None:
+            await self._last.run()
 
     def health(self) -> Tuple[int, str]:
         late = time.monotonic() - self._desk.moved_at if self._desk.is_waiting else 0.0
@@ -41,6 +52,7 @@ class Watched:
         page = Page()
         self._tell_requests(page)
         self._tell_silo(page)
+        self._tell_data(page)
         self._tell_gateway(page)
         return 200, page.text()
 
@@ -63,11 +75,22 @@ class Watched:
         known = sorted({name for lane in self._desk.lanes.values() for name in lane.status if name.isidentifier()})
         for name in known:
             page.family(f"silo_status_{name}", "gauge", "What `status` last told.", self._status_of(name))
-        if self._data is not None:
-            sizes = [({"file": path.name}, float(path.stat().st_size)) for path in sorted(self._data.glob("*")) if path.is_file()]
-            page.family("silo_data_bytes", "gauge", "Bytes of the files of the silo's data.", sizes)
         if self._keeper.number is not None:
             page.family("silo_resident_bytes", "gauge", "Memory of the silo's process.", [({}, resident_bytes(self._keeper.number))])
+
+    def _tell_data(self, page: Page) -> None:
+        if self._data is None or self._last is None:
+            return
+        page.family("silo_data_bytes", "gauge", "Bytes of the files of the silo's data.", [({"file": name}, size) for name, size in sizes_in(self._data)])
+        checkpoint = self._last.checkpoint
+        if checkpoint is None:
+            return
+        age, known = max(0.0, time.time() - checkpoint.written), sorted(checkpoint.tenants.items())
+        page.family("silo_checkpoint_info", "gauge", "The number of the checkpoint that the next ones tell of.", [({"number": checkpoint.number}, 1)])
+        page.family("silo_checkpoint_age_seconds", "gauge", "How long ago it was written.", [({}, age)])
+        for name, what in FIGURES_OF_A_CHECKPOINT.items():
+            samples: Samples = [({"tenant": tenant}, getattr(counts, name)) for tenant, counts in known]
+            page.family(f"silo_checkpoint_{name}", "gauge", f"{what} at that checkpoint.", samples)
 
     def _status_of(self, name: str) -> Samples:
         return [({"tenant": lane.tenant}, lane.status[name]) for lane in self._desk.lanes.values() if isinstance(lane.status.get(name), int)]
@@ -79,6 +102,17 @@ class Watched:
         page.family("silo_sweeps_total", "counter", "Sweeps.", [({}, self._clock.sweeps.count)])
         page.family("silo_refused_tokens_total", "counter", "Connections that gave no tenant's token.", [({}, self._doors.refused_tokens)])
         page.family("silo_refused_connections_total", "counter", "Connections for which there was no room.", [({}, self._doors.refused_connections)])
+
+
+def sizes_in(folder: pathlib.Path) -> List[Tuple[str, float]]:
+    """The files of a folder, with their bytes. One that goes meanwhile is left out."""
+    found: List[Tuple[str, float]] = []
+    with contextlib.suppress(OSError), os.scandir(folder) as entries:
+        for entry in entries:
+            with contextlib.suppress(OSError):
+                if entry.is_file(follow_symlinks=False):
+                    found.append((entry.name, float(entry.stat(follow_symlinks=False).st_size)))
+    return sorted(found)
 
 
 def resident_bytes(number: int) -> float:
