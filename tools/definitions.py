@@ -16,8 +16,8 @@ ROOT = pathlib.Path(__file__).resolve().parent.parent
 CRATES = ROOT / "crates"
 PROMISES = ROOT / "docs" / "promises.md"
 # the crates whose exported functions make the promises
-PROMISING = ["silo_program", "silo_words", "command_parts", "line_commands", "serve_command", "journal_commands", "line_service",
-             "line_answer", "line_protocol", "worker_host", "client_lanes", "tenant_audit", "tenant_machine", "journal_text",
+PROMISING = ["silo_program", "silo_words", "command_parts", "line_commands", "serve_command", "journal_commands", "rows_command",
+             "line_service", "line_answer", "line_protocol", "worker_host", "client_lanes", "tenant_audit", "tenant_machine", "journal_text",
              "line_parser", "silo_core"]
 # traits that a promise takes as given
 PREMISES = [("grain_storage", "GrainStorage"), ("grain_logic", "GrainLogic"), ("command_parts", "WholeFiles")]
@@ -30,7 +30,7 @@ IN_MODULE = re.compile(r" +(?:(?:abbrev|unfoldable) (?:pub )?|(?:pub )?record )(
 MEMBER = re.compile(r"  (?:pub )?(\S+) :")
 OF_CODE = re.compile(r"(\w+)\.specs\.declared\.(?:.*\.)?(\w+?)(?:\.TheVariants)?")
 CLAUSE = re.compile(r"\b(?:requires|ensures)\*?(?: once)?(?: \w+)? \{")
-OF_SPECS = re.compile(r"(\w+)\.specs\.((?:inside\.)?\w+)")
+OF_SPECS = re.compile(r"(\w+)\.specs\.((?:\w+\.)*\w+)")
 
 
 class Place(NamedTuple):
@@ -262,14 +262,16 @@ class Search:
 
 
 def named_files(text: str) -> list[str]:
-    """The files of specs/ that a text names; one without a crate is of the crate that was named last."""
+    """The files of specs/ that a text names; one without a crate is of the crate that was named last. A `*` stands for all names."""
     crate, found = "", []
     for named in re.findall(r"`([^`\s]+)`", text):
         parts = named.split("/")
         if len(parts) > 1 and (CRATES / parts[0]).is_dir():
             crate = parts[0]
         if named.endswith(".antt"):
-            found.append(f"{crate}/specs/{'inside/' if 'inside' in parts else ''}{parts[-1]}")
+            folders = parts[parts.index("specs") + 1:-1] if "specs" in parts else [part for part in parts if part == "inside"]
+            file = "/".join([crate, "specs", *folders, parts[-1]])
+            found += sorted(path.relative_to(CRATES).as_posix() for path in CRATES.glob(file)) if "*" in file else [file]
     return found
 
 

@@ -10,6 +10,6 @@ the lines that ask for these,
 `checkpoint` reads and writes the text of what is kept of a silo, `switched` has it in the place of a log, `listed` prints its rows,
 `journal` reads and writes a journal's text, `audit` compares a journal with the machines, `laws` looks at what is promised
 of every run, and `program` reads the program's words. `rows`, `answer_rows` and `resting_rows` have worked examples in the
-words of `short_lines`, `call_rows` those that no line makes, `folder_rows`, `running_rows` and `switch_rows` those of checkpoints,
+words of `short_lines`, `call_rows` those that no line makes, `folder_rows`, `listed_rows`, `running_rows` and `switch_rows` those of checkpoints,
 `cut_rows` lives that end at each call, and `row_checks` runs all.
 """

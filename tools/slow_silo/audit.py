@@ -48,7 +48,7 @@ def same_row(one: Optional[Row], other: Optional[Row]) -> bool:
 def tenants_of(journal: Journal) -> list[str]:
     """Those of the table in its order, then the others that own a step, a reply or a row."""
     listed = [tenant for tenant, _limits in journal.tenants]
-    owners = {owner(step) for step in journal.steps} - {None}
+    owners = set(map(owner, journal.steps)) - {None}
     others = owners | {reply.tenant() for reply in journal.replies} | {grain.tenant for grain, _row in journal.rows}
     return listed + sorted(others - set(listed))
 

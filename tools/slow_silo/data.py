@@ -33,8 +33,8 @@ class Folder(Protocol):
     def open(self) -> Optional[bytes]:
         """Makes the folder if there is none, takes the lock, and gives the log's bytes, if there is one."""
 
-    def checkpoint(self) -> Optional[bytes]:
-        """The checkpoint's bytes, if there is one. That takes no lock, and changes nothing."""
+    def checkpoint(self) -> bytes:
+        """The checkpoint's bytes. That takes no lock, and changes nothing."""
 
     def own_checkpoint(self) -> Optional[bytes]:
         """The same, once the folder is open: they are then on the disk, with the checkpoint's name."""
@@ -65,10 +65,14 @@ class MemoryFolder:
         self.files.setdefault(f"{self.path}/{LOCK}", b"")
         return self.files.get(self.log)
 
-    def checkpoint(self) -> Optional[bytes]:
-        return self.files.get(f"{self.path}/{CHECKPOINT}")
+    def checkpoint(self) -> bytes:
+        found = self.own_checkpoint()
+        if found is None:
+            raise NotRead
+        return found
 
-    own_checkpoint = checkpoint
+    def own_checkpoint(self) -> Optional[bytes]:
+        return self.files.get(f"{self.path}/{CHECKPOINT}")
 
     def place(self, checkpoint: bytes) -> None:
         self.replace(NEW_CHECKPOINT, CHECKPOINT, checkpoint)
@@ -130,12 +134,9 @@ class DiskFolder:
             raise NotWritten from error
         return file, content
 
-    def checkpoint(self) -> Optional[bytes]:
+    def checkpoint(self) -> bytes:
         try:
-            with open(os.open(f"{self.path}/{CHECKPOINT}", os.O_RDONLY | os.O_NOFOLLOW), "rb") as file:
-                return file.read()
-        except FileNotFoundError:
-            return None
+            return pathlib.Path(f"{self.path}/{CHECKPOINT}").read_bytes()
         except (OSError, ValueError) as error:
             raise NotRead from error
 

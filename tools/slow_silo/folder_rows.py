@@ -10,7 +10,7 @@ from __future__ import annotations
 import os
 import pathlib
 import tempfile
-from typing import Callable, Iterator, NamedTuple, Sequence
+from typing import Callable, Iterator, NamedTuple, Optional, Sequence
 from unittest import mock
 
 from . import checkpoint_rows, data, logged
@@ -21,7 +21,7 @@ from .kinds import NEWEST
 from .lines import ReaderFailed
 from .program import Run, run_program
 from .row import Row
-from .short_lines import A, RELAY, SHEET, SWEEP, call, no, ok, poke, seen, status, tick
+from .short_lines import A, BLUE, RELAY, SHEET, SWEEP, call, no, ok, poke, seen, status, tick
 
 
 def row(name: str, before: dict, lines: list, out: list, then: dict, words: Sequence[str] = ANSWER) -> Row:
@@ -210,11 +210,20 @@ OLD_POINT = changed(FIRST_POINT, NUMBER, f"kinds {NEWEST}", "kinds 1")
 NEW_POINT = changed(FIRST_POINT, NUMBER, f"kinds {NEWEST}", f"kinds {NEWEST + 1}")
 OTHER_LOG = log_of(FIRST, number=1)
 TENANTS = [*ANSWER, "blue:1:1"]
+RED_AND_BLUE, BLUE_ONLY = ["answer", "--data", "d", "red:2:4", "blue:1:1"], ["answer", "--data", "d", "blue:1:1"]
+OLD_WORDS = WORDS._replace(kinds=1)
+OLD_BATCH = log_of(SECOND, words=OLD_WORDS, number=of(OLD_POINT))
 POINT_REFUSED, OTHER_WORDS = "the checkpoint is refused", "the data have other words"
 
 
-def other_words(name: str, words: Sequence[str], before: dict = BEHIND) -> Row:
-    return refused(f"a checkpoint's words: {name}", before, 2, OTHER_WORDS, words)
+def other_words(name: str, words: Sequence[str], before: Optional[dict] = None) -> Row:
+    """Other words begin behind a log without a batch alone."""
+    return refused(f"a checkpoint's words: {name}", {**BEHIND, "d/log": BATCH} if before is None else before, 2, OTHER_WORDS, words)
+
+
+def left_out(name: str, lines: list) -> Row:
+    """Of red something is kept, so it can't be left out."""
+    return refused(f"the words leave out red: {name}", after(point(lines, words=RED_AND_BLUE), RED_AND_BLUE), 2, "the data have the tenant red", BLUE_ONLY)
 
 
 def beside(name: str, log: str, status_: int, errors: str, checkpoint: str = FIRST_POINT) -> Row:
@@ -223,16 +232,20 @@ def beside(name: str, log: str, status_: int, errors: str, checkpoint: str = FIR
 
 REFUSED = [
     *(it.row(POINT_REFUSED) for it in FAULTY if not it.is_taken),
-    other_words("the number of the kinds", ANSWER, after(OLD_POINT)),
+    other_words("the number of the kinds", ANSWER, {**after(OLD_POINT), "d/log": OLD_BATCH}),
     other_words("a version of the kinds that there isn't yet", ANSWER, after(NEW_POINT)),
     other_words("the deliveries", [*ANSWER[:3], "--sends", "999", "red:2:4"]),
     other_words("the age", [*ANSWER[:3], "--age", "9", "red:2:4"]),
     other_words("an age of a kind", [*ANSWER[:3], "--ages", "sheet=5", "red:2:4"]),
     other_words("limits", [*ANSWER[:3], "red:2:5"]),
     other_words("a tenant more", TENANTS),
-    other_words("the order of tenants", [*ANSWER[:3], "blue:1:1", "red:2:4"], after(point(ADD, words=TENANTS), TENANTS)),
-    other_words("before a log that is missing", [*ANSWER[:3], "red:2:5"], {"d/checkpoint": FIRST_POINT}),
-    other_words("before a kind that isn't known", [*ANSWER[:3], "red:2:5"], after(KIND_POINT)),
+    other_words("behind a torn end", [*ANSWER[:3], "red:2:5"], {**BEHIND, "d/log": HEAD + "+{"}),
+    other_words("behind a batch of no line", [*ANSWER[:3], "red:2:5"], {**BEHIND, "d/log": log_of(([], []), number=of(FIRST_POINT))}),
+    other_words("beside the log that it replaced", [*ANSWER[:3], "red:2:5"], STALE),
+    other_words("beside another log", [*ANSWER[:3], "red:2:5"], {**BEHIND, "d/log": OTHER_LOG}),
+    other_words("beside a log of no form", [*ANSWER[:3], "red:2:5"], {**BEHIND, "d/log": "what"}),
+    refused("other words, and no log", {"d/checkpoint": FIRST_POINT}, 4, "the log is missing", [*ANSWER[:3], "red:2:5"]),
+    refused("other words, and a kind that isn't known", after(KIND_POINT), 4, POINT_REFUSED, [*ANSWER[:3], "red:2:5"]),
     refused("a checkpoint that is refused comes before its words", {"d/checkpoint": "what"}, 4, POINT_REFUSED, [*ANSWER[:3], "red:2:5"]),
     refused("a checkpoint without its log", {"d/checkpoint": FIRST_POINT}, 4, "the log is missing"),
     refused("that comes before a kind that isn't known", {"d/checkpoint": KIND_POINT}, 4, "the log is missing"),
@@ -251,14 +264,61 @@ REFUSED = [
            POINT_REFUSED, KIND_POINT),
     refused("more requests than can be counted", after(COUNT_POINT), 4, POINT_REFUSED),
     beside("of more requests the log that it replaced, which stays", log_of(FIRST), 4, POINT_REFUSED, COUNT_POINT),
-    other_words("before requests that can't be counted", [*ANSWER[:3], "red:2:5"], after(COUNT_POINT)),
+    refused("other words, and requests that can't be counted", after(COUNT_POINT), 4, POINT_REFUSED, [*ANSWER[:3], "red:2:5"]),
+    other_words("before a tenant that is left out", BLUE_ONLY),
+    left_out("requests were counted", call(1, A, "rest")),
+    left_out("a row was stored", poke(1, A, 1)),
+    left_out("an activation, what it sent, and a row", SENT + SAVED),
+    refused("the first one whose account has something is told", after(point(ADD + call(1, "counter/blue:a", "get", None, BLUE), words=RED_AND_BLUE), RED_AND_BLUE),
+            2, "the data have the tenant red", [*ANSWER[:3], "c:1:1"]),
+    refused("then the first one with an active grain", after(changed(point(ADD + call(1, "counter/blue:a", "get", None, BLUE), words=RED_AND_BLUE), NUMBER,
+            "account blue 1 0", "account blue 0 0", "account red 1 0", "account red 0 0"), RED_AND_BLUE), 2, "the data have the tenant blue",
+            [*ANSWER[:3], "c:1:1"]),
+    refused("and a kind that isn't known then isn't looked at", after(KIND_POINT), 2, "the data have the tenant red", BLUE_ONLY),
+]
+
+# ---- other words
+
+
+def reworded(name: str, lines: list, words: Sequence[str], old: Sequence[str] = ANSWER) -> Row:
+    """A start under other words that is asked nothing: it is what a silo of these words would have kept of the lines."""
+    before = point(lines, words=old)
+    return row(f"other words: {name}", after(before, old), [], [], after(point(lines, of(before), words), words), words)
+
+
+WIDE, NARROW = ["answer", "--data", "d", "red:9:4"], ["answer", "--data", "d", "red:1:1"]
+TWO_ACTIVE = point(ADD + call(2, SHEET, "list"))
+NARROW_POINT = changed(TWO_ACTIVE, of(TWO_ACTIVE), "red 2 4", "red 1 1")
+LEFT_WAITING = point(SENT, words=WAITING)
+REWORDED = [
+    reworded("the deliveries", ADD, [*ANSWER[:3], "--sends", "999", "red:2:4"]),
+    reworded("the age", ADD, [*ANSWER[:3], "--age", "9", "red:2:4"]),
+    reworded("an age of a kind", ADD, [*ANSWER[:3], "--ages", "sheet=5", "red:2:4"]),
+    reworded("limits", ADD, [*ANSWER[:3], "red:2:5"]),
+    reworded("a tenant more", ADD, TENANTS),
+    reworded("the order of tenants", ADD, [*ANSWER[:3], "blue:1:1", "red:2:4"], TENANTS),
+    reworded("all of them", SAVED, ["answer", "--data", "d", "--sends", "2", "--age", "7", "--ages", "relay=9", "c:1:1", "red:3:3"]),
+    reworded("a tenant of which nothing is kept may be left out", tick(3) + status(1) + call(1, "clock/blue:a", "get", None, BLUE), ANSWER, RED_AND_BLUE),
+    row("other words: a newer version of the kinds", {"d/checkpoint": OLD_POINT, "d/log": log_of(words=OLD_WORDS, number=of(OLD_POINT))}, MORE,
+        ok(2, 7),
+        after(point(ADD + MORE, of(changed(FIRST_POINT, of(OLD_POINT)))))),
+    row("more than are active may be active already", after(TWO_ACTIVE), call(3, "counter/red:b", "get") + call(4, A, "get"),
+        no(3, 41, "tenant red has no free activation") + ok(4, 3),
+        after(changed(TWO_ACTIVE, of(NARROW_POINT), "account red 2 0", "account red 3 0", "red 2 4", "red 1 1"), NARROW), NARROW),
+    row("what a grain sent waits under the new words", after(LEFT_WAITING, WAITING), [], [],
+        after(changed(LEFT_WAITING, of(LEFT_WAITING), "sends 1", "sends 1000"), WIDE), WIDE),
+    row("and follows the tenant's next line", after(LEFT_WAITING, WAITING), status(4), seen(4, 2, 0, 4),
+        after(changed(point(SENT + status(4), words=WAITING), of(changed(LEFT_WAITING, of(LEFT_WAITING), "sends 1", "sends 1000")),
+                      "sends 1", "sends 1000"), WIDE), WIDE),
+    row("where a start ended in between, the checkpoint's words count", {"d/checkpoint": NARROW_POINT, "d/log": log_of(number=of(TWO_ACTIVE))},
+        [], [], after(NARROW_POINT, NARROW), NARROW),
 ]
 
 # only the kinds of active grains are looked at
 OTHER_ROW = row("a row of a kind that isn't known is kept", after(ROW_POINT), GET, ok(3, 3),
                 after(changed(point(SAVED + GET), of(ROW_POINT), ROW[:-1], ROW[:-1].replace("counter", "clock"))))
 
-FOLDERS: list[Row] = [*BOTH, *NUMBERS, OTHER_ROW, *REFUSED]
+FOLDERS: list[Row] = [*BOTH, *NUMBERS, OTHER_ROW, *REFUSED, *REWORDED]
 
 
 # ---- runs

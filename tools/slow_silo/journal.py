@@ -131,7 +131,8 @@ IS_HEX = re.compile("([0-9a-f]{2})*", re.ASCII).fullmatch
 
 def number(field: str, least: int = 0, most: int = MAX_NUMBER) -> int:
     found = int(field) if IS_NUMBER(field) else -1
-    fits(least <= found <= most)
+    if not least <= found <= most:
+        raise Misfit
     return found
 
 
@@ -218,6 +219,7 @@ STEP_LINES = {
     "tick": (1, lambda _form, now: Tick(number(now))),
     "sweep": (0, lambda _form: Sweep()),
 }
+NAMED = ("begin ", "activate ", "load ", "deliver ")
 
 
 def read_tenant(line: str, before: list) -> tuple[str, Limits]:
@@ -227,11 +229,21 @@ def read_tenant(line: str, before: list) -> tuple[str, Limits]:
 
 
 def read_step(line: str, _before: list, form: int = LAST_FORM) -> Step:
-    word, *fields = line.split(" ")
-    count, read = STEP_LINES.get(word, (None, None))
-    if len(fields) != count:
+    return named_step(line, form) if line.startswith(NAMED) else read_fields(line, form)
+
+
+@lru_cache(maxsize=MOST_KEPT)
+def named_step(line: str, form: int) -> Step:
+    """The same of a line in which nothing but a grain is named: it comes again and again."""
+    return read_fields(line, form)
+
+
+def read_fields(line: str, form: int) -> Step:
+    fields = line.split(" ")
+    count, read = STEP_LINES.get(fields[0], (None, None))
+    if len(fields) - 1 != count:
         raise Misfit
-    return read(form, *fields)
+    return read(form, *fields[1:])
 
 
 def read_reply(line: str, _before: list, form: int, word: str = "reply", among: Collection[int] = codes.TEXTS) -> Reply:

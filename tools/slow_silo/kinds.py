@@ -52,9 +52,12 @@ def refuses(state: object, code: int) -> Plan:
 
 def has_fields(args: object, /, **kinds: type) -> bool:
     """The argument is a map with exactly these fields, each of its type."""
-    if not isinstance(args, dict) or set(args) != set(kinds):
+    if not isinstance(args, dict) or args.keys() != kinds.keys():
         return False
-    return all(kind is object or type(args[name]) is kind for name, kind in kinds.items())
+    for name, kind in kinds.items():
+        if kind is not object and type(args[name]) is not kind:
+            return False
+    return True
 
 
 # ---- counters
@@ -206,5 +209,5 @@ class Logic(NamedTuple):
 
 
 # the number of the newest version, which the program runs
-NEWEST = 2
+NEWEST = max([kind.since for kind in KINDS.values()] + [since for methods in METHODS.values() for since, _ in methods.values()])
 FIRST_KINDS, NEWEST_KINDS = Logic(1), Logic(NEWEST)

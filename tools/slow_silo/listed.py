@@ -3,8 +3,8 @@
     {"row":GRAIN,"version":N,"state":V}
     {"active":GRAIN,"version":N,"last":MOMENT,"until":MOMENT,"state":V}
 
-They ascend by grain, a grain's row before its activation. A row that was cleared has no `state`. The version of an activation whose grain
-has no row is null. States are written as replies have values.
+Rows come first, then active grains, each ascending by grain. A row that was cleared has no `state`. The version of an activation whose
+grain has no row is null. States are written as replies have values.
 """
 
 from __future__ import annotations
@@ -33,6 +33,6 @@ def active_line(it: KeptGrain) -> str:
 
 def listed_rows(checkpoint: Checkpoint, tenant: Optional[str] = None) -> bytes:
     """The lines of all tenants, or of one."""
-    found = [(at, 0, row_line(at, row)) for at, row in own_setup(checkpoint).rows]
-    found += [(it.grain, 1, active_line(it)) for it in checkpoint.grains]
-    return "".join(line + "\n" for at, _place, line in sorted(found) if tenant in (None, at.tenant)).encode()
+    found = [(at, row_line(at, row)) for at, row in own_setup(checkpoint).rows]
+    found += [(it.grain, active_line(it)) for it in checkpoint.grains]
+    return "".join(line + "\n" for at, line in found if tenant in (None, at.tenant)).encode()

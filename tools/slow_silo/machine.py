@@ -230,7 +230,7 @@ class Machine:
         return added > freed and kept_bytes(self.storage.rows, held, self.sends) + added > self.room
 
     def check_bytes(self, more: Callable[..., int], *given: object, freed: int = 0) -> None:
-        if self.would_pass(more, *given, freed=freed):
+        if self.room is not None and self.would_pass(more, *given, freed=freed):
             raise Refused(codes.NO_ROOM, self.tenant)
 
     def more(self, grain: Grain, row: Optional[Row], held: Optional[int]) -> int:
@@ -296,12 +296,12 @@ class Machine:
         if found is None or found[2].asks is not None:
             return None
         entry, request, plan = found
-        if plan.code is None and self.would_pass(self.more_by_end, step.grain, plan):
+        if plan.code is None and self.room is not None and self.would_pass(self.more_by_end, step.grain, plan):
             self.close(step.grain, entry, request)
             return refused(request, codes.NO_ROOM, self.tenant)
         self.close(step.grain, entry, request, plan.keep)
         entry.state = plan.state
-        self.sends.extend((step.grain, sent) for sent in plan.sends)
+        self.sends += [(step.grain, sent) for sent in plan.sends]
         if plan.code is not None:
             return refused(request, plan.code)
         return answered(request, plan.value)

@@ -8,10 +8,11 @@ from typing import Callable, Iterable, NamedTuple, Optional, Union
 from . import codes, lines, log, logged, switched
 from .answer import DEFAULT_SENDS, MAX_SENDS, answer_lines, is_asked
 from .audit import audit
-from .checkpoint import CheckpointRefused, read_checkpoint
+from .checkpoint import LOOSE, CheckpointRefused, own_setup, read_checkpoint
 from .data import Folder, InUse, MemoryFolder, NotRead, NotWritten
 from .journal import (IS_NUMBER, MAX_ACTIVATIONS, MAX_AGE, MAX_AGES, MAX_MAILBOX, MAX_TENANTS, RefusedAt, journal_of, journal_text,
                       migrate_journal, read_journal)
+from .kinds import NEWEST
 from .listed import listed_rows
 from .machine import Limits
 from .names import is_word
@@ -122,7 +123,7 @@ OPTIONS = {
     "migrate": {},
     "rows": {},
 }
-# what takes no value; the program has no `--checkpoints`, replies, bytes or operator, and no `rows` yet
+# what takes no value; the program has no `--checkpoints`, replies, bytes or operator yet
 FLAGS = {"answer": ["--no-sync", "--checkpoints", "--operator"], "serve": ["--explain-lines", "--summary"]}
 
 
@@ -236,13 +237,16 @@ def run_data(given: dict, words: list[str], data: Union[bytes, Iterable[bytes]],
 
 
 def run_rows(words: list[str], folder: Folder) -> bytes:
-    """What the checkpoint of a folder has, of all tenants or of one."""
+    """What the checkpoint of a folder has, of all tenants or of one. One of a newer version of the kinds is refused."""
     try:
-        text = folder.checkpoint()
-        return b"" if text is None else listed_rows(read_checkpoint(text), *words)
-    except (NotRead, CheckpointRefused) as error:
-        status, says = FAULTS_OF_DATA[type(error)]
-        raise Ended(status, says.format(*error.args)) from error
+        checkpoint = read_checkpoint(folder.checkpoint(), LOOSE)
+    except NotRead as error:
+        raise Ended(*FAULTS_OF_DATA[NotRead]) from error
+    except CheckpointRefused as error:
+        raise Ended(*REFUSED) from error
+    if own_setup(checkpoint).logic.number > NEWEST:
+        raise Ended(*REFUSED)
+    return listed_rows(checkpoint, *words)
 
 
 def pieces_of(data: Union[bytes, Iterable[bytes]]) -> Iterable[bytes]:
@@ -369,7 +373,7 @@ def run_program(words: list[str], data: Union[bytes, Iterable[bytes]] = b"", fil
             out, errors = run_serve(given, others, data, files, chance)
             written.append(out)
         elif words[0] == "rows":
-            if not 1 <= len(others) <= 2 or not all(map(is_word, others[1:])):
+            if not 1 <= len(others) <= 2:
                 raise Ended(BAD_WORDS)
             written.append(run_rows(others[1:], folder_of(others[0])))
         elif words[0] == "migrate":

@@ -9,6 +9,7 @@ from .bytes_rows import BYTES_IN_JOURNALS, BYTES_IN_LINES, MIGRATED
 from .data_rows import DATA
 from .folder_rows import FOLDERS
 from .journal_rows import JOURNALS, WRITTEN
+from .listed_rows import LISTED
 from .resting_rows import AGES_OF_KINDS, MISFIT, RESTING
 from .row import Row
 from .short_lines import (A, B, BLUE, BLUE_A, LINE_TOO_LONG, NOT_A_REQUEST, NOT_NOW, RELAY, SHEET, SWEEP, at,
@@ -357,4 +358,4 @@ LANES = [
 ]
 
 ROWS = [*COUNTERS, *STORAGE, *OTHER_KINDS, *TENANTS, *CLOCK, *RESTING, *LINES, *BYTES_IN_LINES, *WORDS, *AGES_OF_KINDS, *LANES,
-        *TOLD, *JOURNALS, *BYTES_IN_JOURNALS, *MIGRATED, *ANSWERED, *DATA, *FOLDERS]
+        *TOLD, *JOURNALS, *BYTES_IN_JOURNALS, *MIGRATED, *ANSWERED, *DATA, *FOLDERS, *LISTED]

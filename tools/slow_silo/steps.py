@@ -84,11 +84,8 @@ Step = Union[Refuse, Call, Poke, Status, Deliver, Activate, Load, Begin, Store, 
 
 
 def owner(step: Step) -> Optional[str]:
-    """The tenant whose step it is. A call across tenants is its caller's."""
-    kind = type(step)
-    if kind in OF_NOBODY:
-        return None
-    return step.caller.tenant if kind in OF_A_CALLER else step.grain.tenant
+    """The tenant whose step it is: that of its first field, a caller or a grain. A call across tenants is its caller's."""
+    return None if type(step) in OF_NOBODY else step[0].tenant
 
 
 def concerns(step: Step, tenant: str) -> bool:

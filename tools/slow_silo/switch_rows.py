@@ -21,6 +21,7 @@ from .folder_rows import BATCH, BEHIND, BOTH as OF_BOTH_FORMS, FAULTY, FIRST_POI
 from .folder_rows import ROW, ROW_POINT, SAVED, SENT, STALE, TEXT, WAITING as AT_ONCE
 from .folder_texts import KEPT, NUMBER, WORDS, after, changed, lines_text, log_of, of, point, setup_and_most, words_said
 from .log import cut_head, head_with, spelled
+from .listed_rows import HELD, OF_BLUE
 from .logged import text_of
 from .program import Run, run_program
 from .row import Row
@@ -134,31 +135,7 @@ REFUSED = [
     Row("checkpoints without data", ["answer", "--checkpoints", "red:2:4"], GET, [], 2, "error: --data is missing"),
 ]
 
-# ---- rows of a folder
-
-HELD = point(SAVED + call(4, "counter/red:b", "stay", {"for": 9}) + poke(5, "counter/blue:a", 4, BLUE)
-             + poke(6, SHEET, {"z": "\u00e9\n", "b": [None, {"$hex": "00ff"}]}) + call(7, "counter/red:c", "save")
-             + call(8, "counter/red:c", "clear"), words=["answer", "red:9:4", "blue:1:1"])
-OF_BLUE = '{"row":"counter/blue:a","version":1,"state":4}'
-LISTED = [
-    Row("the rows and the active grains of a folder, ascending", ["rows", "d"], [],
-        [OF_BLUE, '{"row":"counter/red:a","version":1,"state":3}', '{"active":"counter/red:a","version":1,"last":0,"until":0,"state":3}',
-         '{"active":"counter/red:b","version":null,"last":0,"until":9,"state":0}', '{"row":"counter/red:c","version":2}',
-         '{"active":"counter/red:c","version":2,"last":0,"until":0,"state":0}',
-         '{"row":"sheet/red:s","version":2,"state":{"b":[null,{"$hex":"00ff"}],"z":"\u00e9\\n"}}',
-         '{"active":"sheet/red:s","version":1,"last":0,"until":0,"state":{}}'],
-        files={"d/checkpoint": HELD}, files_after={"d/checkpoint": HELD}),
-    Row("those of one tenant", ["rows", "d", "blue"], [], [OF_BLUE], files={"d/checkpoint": HELD}),
-    Row("those of one that isn't there", ["rows", "d", "green"], [], [], files={"d/checkpoint": HELD}),
-    Row("a log isn't read", ["rows", "d"], [], [], files={"d/log": TWO}),
-    Row("nor is a folder made", ["rows", "d"], [], []),
-    Row("the rows of a checkpoint that is refused", ["rows", "d"], [], [], 4, "silo: checkpoint line 21 is refused",
-        {"d/checkpoint": TEXT.replace("clock 7", "clock 8")}),
-    Row("no folder", ["rows"], [], [], 2, "error: DIR is missing"),
-    Row("no tenant", ["rows", "d", "Red"], [], [], 2, "error: no tenant"),
-]
-
-SWITCHED: list[Row] = [*(it._replace(words=with_option(it.words)) for it in OF_BOTH_FORMS), *OTHER_WORDS, *REFUSED, *LISTED]
+SWITCHED: list[Row] = [*(it._replace(words=with_option(it.words)) for it in OF_BOTH_FORMS), *OTHER_WORDS, *REFUSED]
 
 
 # ---- runs
@@ -263,7 +240,7 @@ def a_checkpoint_on_the_disk_is_its_owners_and_goes_on() -> bool:
         "checkpoint": 0o600, "lock": 0o600, "log": 0o600}
 
 
-def rows_are_listed_while_a_silo_has_the_folder() -> bool:
+def rows_are_printed_while_a_silo_has_the_folder() -> bool:
     with tempfile.TemporaryDirectory() as folder:
         place = pathlib.Path(folder)
         (place / "checkpoint").write_text(HELD)
@@ -275,7 +252,7 @@ def rows_are_listed_while_a_silo_has_the_folder() -> bool:
 
 
 def a_checkpoint_that_is_a_link_is_not_read() -> bool:
-    """What a link that was left beside leads to is kept."""
+    """By a silo that keeps data there: its rows are printed. What a link that was left beside leads to is kept."""
     found = []
     for name in ("checkpoint", "checkpoint.new"):
         with tempfile.TemporaryDirectory() as folder:
@@ -285,12 +262,13 @@ def a_checkpoint_that_is_a_link_is_not_read() -> bool:
             (place / name).symlink_to("../aside")
             told = [on_disk(place, words, lines)[1:] for words, lines in ((["rows", "d"], []), (KEPT, ADD))]
             found.append((told, aside.read_text() == FIRST_POINT))
-    return found == [([(b"silo: reading failed\n", 1)] * 2, True), ([(b"", 0)] * 2, True)]
+    failed = b"silo: reading failed\n", 1
+    return found == [([(b"", 0), failed], True), ([failed, (b"", 0)], True)]
 
 
 SWITCH_CALLS: tuple[Callable[[], bool], ...] = (
     a_new_folder_has_a_checkpoint_of_its_lines, a_new_folder_that_is_asked_nothing_has_a_log_alone,
     an_input_that_fails_leaves_no_checkpoint, so_does_one_that_is_too_long, a_run_answers_the_same_whenever_it_is_switched,
     so_do_two_runs_wherever_the_first_one_ends, a_run_for_each_line_answers_what_one_run_does,
-    a_checkpoint_on_the_disk_is_its_owners_and_goes_on, rows_are_listed_while_a_silo_has_the_folder,
+    a_checkpoint_on_the_disk_is_its_owners_and_goes_on, rows_are_printed_while_a_silo_has_the_folder,
     a_checkpoint_that_is_a_link_is_not_read)

@@ -9,8 +9,8 @@ and then a new log, without a batch, in the place of the old log. So whatever a 
 - a checkpoint and the log that it replaced: all of the log is in the checkpoint.
 
 Any other log is refused. A log is replaced once a start has answered lines of it again, once it got more bytes of lines than there is room
-for, and at the end of the input, if it has lines (`logged`). Two forms differ in the folders from which a start goes on: `of_program`, and
-`full`, which is to come, and in which a start may have other words than the folder.
+for, and at the end of the input, if it has lines (`logged`). Two forms differ in the folders from which a start goes on: `of_program`, where
+a start may have other words than the folder if its log has no batch, and `full`, which is to come, where it may whatever the log has.
 
 A start has the tenants of its words. With `--operator` these count in a folder without a checkpoint alone, in both forms: one with a
 checkpoint has its own table, which lines of its operator may have changed, and no start takes back what they did. Callers keep their
@@ -72,10 +72,28 @@ class Beside(NamedTuple):
         return head is not None and head.number == self.checkpoint.follows.encode()
 
 
+def kept_tenants(it: Beside) -> Iterable[str]:
+    """The tenants of which something is kept: first as accounts have them, then active grains, then rows."""
+    yield from (at.tenant for at in it.checkpoint.accounts if at.count > 0 or at.sends)
+    yield from (at.grain.tenant for at in it.checkpoint.grains)
+    yield from (grain.tenant for grain, _row in it.setup.rows)
+
+
 def look_at_words(it: Beside) -> None:
+    """Other words may begin where the log that goes on from the checkpoint has no batch. They leave out no tenant of which something is
+    kept: the first one is told."""
     asked = it.asked._replace(tenants=it.words.tenants) if it.asked.operator else it.asked
-    if it.words != asked:
+    if it.words == asked:
+        return
+    if it.words.say_more() or asked.say_more() or it.words.kinds > asked.kinds:
         raise OtherWords
+    look_for_log(it)
+    if it.log != head_with(it.words, it.number):
+        raise OtherWords
+    known = {tenant for tenant, *_limits in asked.tenants}
+    for tenant in kept_tenants(it):
+        if tenant not in known:
+            raise HasTenant(tenant)
 
 
 def look_for_log(it: Beside) -> None:
@@ -130,7 +148,7 @@ class Form(NamedTuple):
 
     # bytes of its lines
     most_log: int
-    # whether a start may have other words than the folder, which then gets a checkpoint under them
+    # whether a start may have other words than the folder whatever its log has, which then gets a checkpoint under them
     other_words: bool
     rules: Rules
     # whether a log may go on from nothing that has this number

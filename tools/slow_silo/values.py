@@ -50,14 +50,18 @@ def depth(value: object) -> int:
 def spelled_length(value: object) -> int:
     """How many bytes spell it."""
     if isinstance(value, str):
-        return 5 + len(value.encode())
+        return 5 + text_length(value)
     if isinstance(value, bytes):
         return 5 + len(value)
     if isinstance(value, list):
-        return 5 + sum(spelled_length(member) for member in value)
+        return 5 + sum(map(spelled_length, value))
     if isinstance(value, dict):
-        return 5 + sum(4 + len(name.encode()) + spelled_length(member) for name, member in value.items())
+        return 5 + 4 * len(value) + sum(map(text_length, value)) + sum(map(spelled_length, value.values()))
     return 9 if is_whole(value) else 1
+
+
+def text_length(text: str) -> int:
+    return len(text) if text.isascii() else len(text.encode())
 
 
 def message_length(method: str, args: object) -> int:
@@ -210,4 +214,6 @@ def migrate_message(data: bytes) -> bytes:
 
 def same(one: object, other: object) -> bool:
     """The two are one value. (In Python True equals 1.)"""
-    return spelled(one) == spelled(other)
+    if type(one) is int and type(other) is int:
+        return one == other
+    return one is other or spelled(one) == spelled(other)

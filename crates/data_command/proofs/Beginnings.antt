@@ -16,7 +16,7 @@ use Rattle.command_parts.specs.declared.failure.Cause.{Cause}
 use Rattle.command_parts.specs.declared.failure.Cause.TheVariants as cause
 use Rattle.data_command.specs.Data.{IsFound, IsFoundPoint, LeavesLog, LogView, since}
 use Rattle.data_command.specs.Passing.{RunLasts}
-use Rattle.data_command.specs.Folder.{FailsToOpen, FolderLasts, FromFolder, OpeningFailsBy, OpensAt}
+use Rattle.data_command.specs.Folder.{FailsToOpen, FolderLasts, FromFolder, IsBetween, OpeningFailsBy, OpensAt}
 use Rattle.data_command.specs.Words.{head_words}
 use Rattle.data_command.specs.declared.fault.DataFault.{DataFault}
 use Rattle.data_command.specs.declared.fault.DataFault.TheVariants as data_fault
@@ -77,7 +77,7 @@ module _ (start : Start) (sends : ℕ) (old now : LogView) (log : Option (List �
       opens_own bytes there has = record {
         version = refl;
         words = says_same saved words worded same;
-        from = inr (record {
+        from = inr (inl (record {
           point = point;
           was = f.point_is;
           follows = saved.follows;
@@ -87,7 +87,7 @@ module _ (start : Start) (sends : ℕ) (old now : LogView) (log : Option (List �
             found = λ e. sym (there ∙ ap Some (has.1 ∙ ap (λ (ws : List ℕ). head_text ws (spelled (sum_in point)) ++ has.0) worded)) ∙ f.log_is e;
             left = f.left;
           });
-        });
+        }));
       }
 
       -- another log was begun
@@ -96,7 +96,7 @@ module _ (start : Start) (sends : ℕ) (old now : LogView) (log : Option (List �
       opens_old bytes there before has new begins past = record {
         version = refl;
         words = says_same saved words worded same;
-        from = inr (record {
+        from = inr (inl (record {
           point = point;
           was = f.point_is;
           follows = saved.follows;
@@ -110,7 +110,7 @@ module _ (start : Start) (sends : ℕ) (old now : LogView) (log : Option (List �
               past ∙ (f.left e).1,
             );
           });
-        });
+        }));
       }
 
       -- or it wasn't
@@ -119,14 +119,14 @@ module _ (start : Start) (sends : ℕ) (old now : LogView) (log : Option (List �
       lasts_old bytes there before has new may past e = by (may (known e))
         where
           by : IsAt new.acts new.begun now.begun ⊎ IsAt new.acts new.begun (Some (head_text words (spelled (sum_in point))))
-              → (IsAt new.acts new.begun old.begun × (new.past ≡ old.past)) ⊎ FromFolder start sends old (λ own view. RunLasts own sends (since view new))
+              → (IsAt new.acts new.begun old.begun × (new.past ≡ old.past)) ⊎ (FromFolder start sends old (λ own view. RunLasts own sends (since view new)) ⊎ IsBetween start sends (since old new))
           by (inl at) = inl ((at.0, at.1 ∙ (f.left e).0.1), past ∙ (f.left e).1)
-          by (inr at) = inr (record {
+          by (inr at) = inr (inl (record {
             own = started start.version saved.setup;
             view = new;
             opens = opens_old bytes there before has new (λ _. at) past;
             holds = λ k. inl ((k, refl), refl);
-          })
+          }))
 
     -- ---- no silo goes on with it, and nothing was done
 
@@ -142,22 +142,18 @@ module _ (start : Start) (sends : ℕ) (old now : LogView) (log : Option (List �
     pub lacks_log : log ≡ None → OpeningFailsBy start sends (since old now) data_fault.NoLog
     lacks_log none = (f.left, record { point = point; was = f.point_is; none = λ e. sym none ∙ f.log_is e })
 
-    pub says_others : (saved : Saved) → HasText point saved → (words : List ℕ) → words ≡ head_words start sends → (SaysWords saved start.version.number sends words → ⊥) → OpeningFailsBy start sends (since old now) data_fault.OtherWords
-    says_others saved says words worded not =
-        (f.left, inl (record { point = point; was = f.point_is; saved = saved; says = says; other = λ same. not (same.0, same.1, same.2 ∙ sym worded) }))
-
     -- the log has another number, or is none
     pub wrong_log : (saved : Saved) → HasText point saved → (words : List ℕ) → words ≡ head_words start sends → (bytes : List ℕ) → log ≡ Some bytes → (why : DataFault)
         → IsWrongLog words (spelled (sum_in point)) saved.follows bytes why → OpeningFailsBy start sends (since old now) why
     wrong_log saved says words worded bytes there data_fault.OtherWords is = (
       f.left,
-      inr (record {
+      inr (inr (inr (record {
         found = bytes;
         was = λ e. sym there ∙ f.log_is e;
         rest = is.0.0;
         form = is.0.1;
         other = λ number rest numbered same. is.1 number rest numbered (same ∙ ap (λ (ws : List ℕ). head_text ws number ++ rest) (sym worded));
-      }),
+      }))),
     )
     wrong_log saved says words worded bytes there (data_fault.Refused line) (inl none) =
         (f.left, inl (record { found = bytes; was = λ e. sym there ∙ f.log_is e; other = none.0 }, none.1))
@@ -177,6 +173,7 @@ module _ (start : Start) (sends : ℕ) (old now : LogView) (log : Option (List �
     )
     wrong_log saved says words worded bytes there (data_fault.Failed why) is = absurd is
     wrong_log saved says words worded bytes there data_fault.NoCheckpoint is = absurd is
+    wrong_log saved says words worded bytes there (data_fault.HasTenant name) is = absurd is
     wrong_log saved says words worded bytes there data_fault.NoLog is = absurd is
     wrong_log saved says words worded bytes there (data_fault.Otherwise line) is = absurd is
 

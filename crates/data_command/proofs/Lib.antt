@@ -6,3 +6,6 @@ pub mod Runs
 pub mod Segments
 pub mod OnLogs
 mod Across
+mod LeftOut
+mod Rewordings
+mod Carried

@@ -92,6 +92,7 @@ next_started keeps start sends view silo begun n spelt is headed same there idle
       };
       number = refl;
       named = ap (λ (p : LogPlace). p.name) is;
+      none = λ no. refl;
       goes_on = subst (λ (p : LogPlace). GoesOn start.version.logic sends (opening start.setup) (first_sum (head_words start sends) begun.number) p (restarted (data_log start sends begun.number) []) silo.whole) (sym is) (record {
         plain = plain_name begun.number numbered;
         settled = starts_settled (data_log start sends begun.number) [] (plain_name begun.number numbered);

@@ -1,7 +1,7 @@
 -- What a start makes of a log.
 use Rattle.std.proofs.Common.{◌≡◌, ◌≤◌, ◌++◌, ◌+◌, ◌-◌, ◌∙◌, ℕ, Bool, Err, Ok, OnErr, OnOk, Result, false, true, true≢false, List, [], ◌∷◌, length, take, Option, None, Some, inl, inr, refl, sym, ap, subst, ◌⊎◌, zero, suc, arith, append-nil, take_all}
 use Rattle.std.specs.Result.{is_err}
-use Rattle.std.proofs.lemmas.List.{length-append}
+use Rattle.std.proofs.lemmas.List.{length-append, nil_from_length}
 use Rattle.std.proofs.lemmas.Option.{same_Some}
 use Rattle.grain_logic.specs.Logic.{Logic}
 use Rattle.silo_model.specs.Opening.{opening}
@@ -177,11 +177,11 @@ module _ (start : Start) (sends : ℕ) where
 
     -- the silo answered its lines again
     pub started_again : (keeps : Bool) (new : LogView) (silo after : History) (again : Again) (place : LogPlace) (begun : StartedLog) → silo.setup ≡ start.setup → silo.whole ≡ opening start.setup
-        → place ≡ place_of (head_words start sends) number → begun.place ≡ again.place → begun.number ≡ number
+        → place ≡ place_of (head_words start sends) number → begun.place ≡ again.place → begun.number ≡ number → (begun.has_lines ≡ false → again.lines ≡ 0)
         → AgainOn keeps start.version.logic sends place bytes silo after again → (old.acts ≡ Some [] → new.acts ≡ Some [])
         → (old.acts ≡ Some [] → new.begun ≡ Some (head_text (head_words start sends) number ++ kept_bytes start sends number bytes)) → new.past ≡ old.past
         → IsStarted keeps start sends (since old new) begun after
-    started_again keeps new silo after again place begun same opens is at digits done fresh kept past =
+    started_again keeps new silo after again place begun same opens is at digits has done fresh kept past =
         let on = subst (λ (p : LogPlace). AgainOn keeps start.version.logic sends p bytes silo after again) is done in
         let d = on.answers in
         record {
@@ -200,6 +200,7 @@ module _ (start : Start) (sends : ℕ) where
           };
           number = sym digits;
           named = ap (λ (p : LogPlace). p.name) at ∙ d.name;
+          none = λ no. subst (λ (bs : List Batch). lines_of bs ≡ []) d.read (nil_from_length (lines_of d.batches) (sym d.lines ∙ has no));
           goes_on = subst (λ (p : LogPlace). GoesOn start.version.logic sends (opening start.setup) (first_sum (head_words start sends) number) p (restarted (data_log start sends number) bytes) after.whole) (sym at)
               (subst (λ (w : Whole). GoesOn start.version.logic sends w (first_sum (head_words start sends) number) again.place
               (restarted (silo_log start.version.logic sends w (name_of number) (first_sum (head_words start sends) number)) bytes) after.whole) opens
@@ -267,6 +268,7 @@ module _ (start : Start) (sends : ℕ) where
       };
       number = sym digits;
       named = ap (λ (p : LogPlace). p.name) is;
+      none = λ no. refl;
       goes_on = subst (λ (p : LogPlace). GoesOn start.version.logic sends (opening start.setup) (first_sum (head_words start sends) (spelled n)) p (restarted (data_log start sends (spelled n)) []) silo.whole) (sym is) (record {
         plain = plain_name (spelled n) (spelled_number n);
         settled = starts_settled (data_log start sends (spelled n)) [] (plain_name (spelled n) (spelled_number n));

@@ -18,9 +18,9 @@ use Rattle.log_answer.specs.Runs.{AnswersLogged, KeepsLines, StopsLogged}
 use Rattle.log_answer.specs.Starts.{IsRefused, TellsOtherwise}
 use Rattle.log_answer.specs.declared.running.LogFault.{LogFault}
 use Rattle.log_answer.specs.declared.running.LogFault.TheVariants as log_fault
-use Rattle.silo_checkpoint.specs.Saved.{HasText, sum_in}
+use Rattle.silo_checkpoint.specs.Saved.{HasText, saved_by, sum_in}
 use Rattle.command_parts.specs.Kept.{opened}
-use Rattle.command_parts.specs.Setups.{Start, started}
+use Rattle.command_parts.specs.Setups.{Start, Version, started}
 use Rattle.command_parts.specs.Streams.{IsUnbegun}
 use Rattle.command_parts.specs.declared.failure.Cause.TheVariants as cause
 use Rattle.data_command.specs.Words.{head_words}
@@ -65,6 +65,12 @@ IsFound log found = log.old.acts ≡ Some [] → found ≡ log.old.begun
 -- These were found as the checkpoint, or none.
 abbrev pub IsFoundPoint : LogClaims → Option (List ℕ) → Type 0
 IsFoundPoint log point = log.old.acts ≡ Some [] → point ≡ log.old.past.point
+
+-- No checkpoint can follow a log of that number: none says this setup, or the log that would go on from it has the same number.
+abbrev pub NothingFollows : Version → ℕ → List ℕ → Setup → Type 0
+NothingFollows version sends number setup =
+    ((text : List ℕ) → HasText text (saved_by number version.number sends setup) → ⊥)
+    ⊎ ((text : List ℕ) × HasText text (saved_by number version.number sends setup) × (spelled (sum_in text) ≡ number))
 
 -- ---- a log
 
@@ -244,6 +250,7 @@ module _ (start : Start) (sends : ℕ) where
     StartFailsBy (data_fault.Failed why) = ⊥
     StartFailsBy data_fault.NoCheckpoint = ⊥
     StartFailsBy data_fault.NoLog = ⊥
+    StartFailsBy (data_fault.HasTenant name) = ⊥
     StartFailsBy data_fault.OtherWords = LeavesLog log × HasOtherWords
     StartFailsBy (data_fault.Refused line) = LeavesLog log × ((IsNoLog × (line ≡ 1)) ⊎ RefusesLine line)
     StartFailsBy (data_fault.Otherwise line) = LeavesLog log × TellsOtherwiseAt line

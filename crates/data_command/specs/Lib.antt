@@ -6,3 +6,4 @@ pub mod Folder
 pub mod Laws
 pub mod inside
 pub mod Across
+pub mod Carried

@@ -25,6 +25,10 @@ refused_text line = codes "silo: log line " ++ decimal line ++ (codes " is refus
 abbrev pub otherwise_text : ℕ → List ℕ
 otherwise_text line = codes "silo: log line " ++ decimal line ++ (codes " is answered otherwise" ++ 10 ∷ [])
 
+-- the line that tells of which tenant something is kept that the words leave out
+abbrev pub has_tenant_text : List ℕ → List ℕ
+has_tenant_text name = codes "silo: the data have the tenant " ++ (name ++ 10 ∷ [])
+
 -- what a fault is to the program, unless memory is refused for what is said
 abbrev pub IsDataFault : DataFault → ProgramFault → Type 0
 IsDataFault (data_fault.Failed why) told = told ≡ fault.Failed why
@@ -37,6 +41,9 @@ IsDataFault data_fault.NoLog (fault.NoJournal text) = string_bytes text ≡ no_l
 IsDataFault data_fault.OtherWords (fault.Failed why) = why ≡ cause.Memory
 IsDataFault data_fault.OtherWords (fault.Refused text) = string_bytes text ≡ other_words_text
 IsDataFault data_fault.OtherWords (fault.NoJournal text) = ⊥
+IsDataFault (data_fault.HasTenant name) (fault.Failed why) = why ≡ cause.Memory
+IsDataFault (data_fault.HasTenant name) (fault.Refused text) = string_bytes text ≡ has_tenant_text name.bytes
+IsDataFault (data_fault.HasTenant name) (fault.NoJournal text) = ⊥
 IsDataFault (data_fault.Refused line) (fault.Failed why) = why ≡ cause.Memory
 IsDataFault (data_fault.Refused line) (fault.Refused text) = ⊥
 IsDataFault (data_fault.Refused line) (fault.NoJournal text) = string_bytes text ≡ refused_text line

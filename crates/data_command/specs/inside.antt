@@ -2,3 +2,4 @@
 pub mod Starts
 pub mod Replacing
 pub mod Ready
+pub mod Rewording

@@ -3,6 +3,7 @@
 ghost use Rattle.std.specs.Prelude.{◌≡◌};
 ghost use Rattle.data_command.specs.Texts.{IsDataFault};
 
+use arrayvec::ArrayString;
 use command_parts::{Cause, ProgramFault};
 use std::alloc::{AllocError, Global};
 
@@ -18,8 +19,11 @@ pub enum DataFault {
     /// The folder has a checkpoint, and no log.
     NoLog,
 
-    /// The folder's checkpoint or log has other words.
+    /// The folder's checkpoint or log has other words, with which the silo can't go on.
     OtherWords,
+
+    /// Something is kept of this tenant, which the silo's own words leave out.
+    HasTenant(ArrayString<32>),
 
     /// That line of the log, counted from 1, is refused.
     Refused(u128),
@@ -40,8 +44,19 @@ impl From<AllocError> for DataFault {
     }
 }
 
-/// What the program says of a fault, and how it ends: with status 1 if it failed, 2 for other words, and 4 for a checkpoint or a line of
-/// the log that is refused.
+/// What the program says of a tenant that is left out.
+fn tell_tenant(alloc: Global, tenant: &ArrayString<32>) -> ProgramFault
+    ensures { IsDataFault (DataFault.HasTenant tenant.now) result }
+{
+    let name = tenant.as_str();
+    match format!(in alloc; "silo: the data have the tenant {name}\n") {
+        Ok(text) => ProgramFault::Refused(text),
+        Err(_) => ProgramFault::Failed(Cause::Memory),
+    }
+}
+
+/// What the program says of a fault, and how it ends: with status 1 if it failed, 2 for other words or a tenant that is left out, and 4
+/// for a checkpoint or a line of the log that is refused.
 pub fn explain_data(alloc: Global, fault: DataFault) -> ProgramFault
     ensures { IsDataFault fault result }
 {
@@ -65,6 +80,7 @@ pub fn explain_data(alloc: Global, fault: DataFault) -> ProgramFault
             Ok(text) => ProgramFault::Refused(text),
             Err(_) => ProgramFault::Failed(Cause::Memory),
         },
+        DataFault::HasTenant(tenant) => tell_tenant(alloc, &tenant),
         DataFault::Refused(line) => match format!(in alloc; "silo: log line {line} is refused\n") {
             Ok(text) => ProgramFault::NoJournal(text),
             Err(_) => ProgramFault::Failed(Cause::Memory),

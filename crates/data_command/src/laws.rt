@@ -1,6 +1,7 @@
 //! Laws over the definitions alone. Each is the contract of a function that does nothing.
 
 ghost use Rattle.data_command.specs.Across.{LogsLeadOn};
+ghost use Rattle.data_command.specs.Carried.{WordsChangeLimits};
 ghost use Rattle.data_command.specs.Laws.{CrashesStand};
 
 /// Whatever a crash leaves of a folder, at any moment of a run, opens as where all lines lead whose replies went out.
@@ -12,4 +13,9 @@ pub fn crashes_stand()
 /// replies of all of them are those of that one.
 pub fn logs_lead_on()
     ensures { LogsLeadOn }
+{}
+
+/// A start under other words changes the limits of each tenant and the ages, and nothing that was kept.
+pub fn words_change_limits()
+    ensures { WordsChangeLimits }
 {}

@@ -11,9 +11,11 @@ mod fault;
 mod found;
 mod head;
 pub mod laws;
+mod left;
 mod opening;
 mod ready;
 mod replacing;
+mod reworded;
 mod starting;
 
 pub use answering::answer_data;

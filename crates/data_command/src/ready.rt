@@ -19,6 +19,7 @@ use crate::fault::DataFault;
 use crate::found::Found;
 use crate::head::head_words;
 use crate::opening::DataOpening;
+use crate::reworded::reworded_ready;
 use crate::starting::{LogTask, count_lines, is_same};
 use command_parts::{Cause, DataFiles, Start, new_silo};
 use grain_logic::GrainLogic;
@@ -281,14 +282,21 @@ fn saved_ready<L: GrainLogic + Drop, F: DataFiles>(
         Err(CheckpointFault::NoCheckpoint) => return Err(DataFault::NoCheckpoint),
         Err(CheckpointFault::Memory) => return Err(DataFault::Failed(Cause::Memory)),
     };
-    let (kinds, sends) = (opening.start.kinds, opening.sends);
+    let (kinds, sends, number) = (opening.start.kinds, opening.sends, sum_of(point));
     if !says_words(alloc, &saved, kinds, sends, words.as_slice())? {
-        return Err(DataFault::OtherWords);
+        let task = LogTask {
+            words,
+            kinds,
+            number,
+            sends,
+            sync: false,
+            log,
+        };
+        return reworded_ready(alloc, files, opening.start, task, saved);
     }
     let Some(found) = log else {
         return Err(DataFault::NoLog);
     };
-    let number = sum_of(point);
     let is_own = is_own_log(words.as_slice(), number, saved.follows, found.as_slice())?;
     let Some(silo) = saved_silo(alloc, opening.start, saved)? else {
         return Err(DataFault::NoCheckpoint);

@@ -7,9 +7,9 @@ ghost use Rattle.log_host.specs.Acts.{Act};
 ghost use Rattle.log_answer.specs.Answers.{SameTables};
 ghost use Rattle.silo_checkpoint.specs.Saved.{sum_in};
 ghost use Rattle.command_parts.specs.Setups.{Start, started, version_of};
-ghost use Rattle.data_command.specs.Data.{LogView, Stands, log_view, since};
+ghost use Rattle.data_command.specs.Data.{LogView, NothingFollows, Stands, log_view, since};
 ghost use Rattle.data_command.specs.Words.{head_words};
-ghost use Rattle.data_command.specs.inside.Replacing.{AreTexts, GoesOnNext, NothingFollows, MayBeReplaced, StaysOn};
+ghost use Rattle.data_command.specs.inside.Replacing.{AreTexts, GoesOnNext, MayBeReplaced, StaysOn};
 
 use crate::starting::{LOG_ROOM, LogTask, StartedLog, is_same};
 use command_parts::{Cause, DataFiles};
@@ -23,7 +23,7 @@ use std::alloc::{AllocError, Global};
 
 /// The text of a checkpoint that says what the silo has, and the head of the log that goes on from it; none if no checkpoint can say it,
 /// or if the new log would have the number of the old one.
-fn texts_of<L: GrainLogic>(
+pub(crate) fn texts_of<L: GrainLogic>(
     alloc: Global,
     silo: &AnsweringSilo<MemoryStorage, L>,
     task: &LogTask,

@@ -6,7 +6,7 @@ use Rattle.request_codec.specs.Tree.{Tree, member, members_of}
 use Rattle.turn_arena.specs.NodeValue.{node_value, field_values}
 use Rattle.turn_arena.specs.declared.node.Field.{Field}
 use Rattle.turn_arena.specs.declared.node.Node.{Node}
-use Rattle.grain_kinds.specs.Sheet.{names_in}
+use Rattle.grain_kinds.specs.Kinds.Sheet.{names_in}
 
 abbrev pub name_text : Field → Tree
 name_text f = tree.text f.name.now

@@ -8,8 +8,8 @@ use Rattle.request_codec.specs.Tree as tree
 use Rattle.request_codec.specs.Tree.{Tree, Members, no_members, member, members_count, members_of}
 use Rattle.turn_arena.specs.NodeValue.{node_values}
 use Rattle.turn_arena.specs.declared.node.Node.{Node}
-use Rattle.grain_kinds.specs.LawsOfRelay.{grains_count}
-use Rattle.grain_kinds.specs.Relay.{grains_in, are_distinct, if_distinct, members_in, member_limit}
+use Rattle.grain_kinds.specs.Kinds.Relay.Laws.{grains_count}
+use Rattle.grain_kinds.specs.Kinds.Relay.{grains_in, are_distinct, if_distinct, members_in, member_limit}
 
 -- ---- how many
 

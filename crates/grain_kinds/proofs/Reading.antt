@@ -4,7 +4,7 @@ use Rattle.std.specs.List.{AllByRecursion}
 use Rattle.grain_id.specs.Names.{same_text}
 use Rattle.grain_logic.specs.LawsOfForms.{if_holds}
 use Rattle.grain_logic.specs.Tables.{Method, method_in, reads_by}
-use Rattle.grain_kinds.specs.EveryKind.{every_kind}
+use Rattle.grain_kinds.specs.Kinds.EveryKind.{every_kind}
 
 none_reads : (ms : List Method) (word : List ℕ) → AllByRecursion (λ m. m.only_reads ≡ false) ms → reads_by (method_in ms word) ≡ false
 none_reads [] word all = refl

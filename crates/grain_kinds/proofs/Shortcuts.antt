@@ -4,8 +4,8 @@ use Rattle.std.specs.Prelude.{ℤ, codes}
 use Rattle.grain_id.specs.Names.{same_text}
 use Rattle.request_codec.specs.Tree as tree
 use Rattle.request_codec.specs.Tree.{Tree, integer, field, no_fields}
-use Rattle.grain_kinds.specs.Counter.{counter_methods}
-use Rattle.grain_kinds.specs.Sheet.{sheet_methods}
+use Rattle.grain_kinds.specs.Kinds.Counter.{counter_methods}
+use Rattle.grain_kinds.specs.Kinds.Sheet.{sheet_methods}
 use Rattle.grain_logic.specs.Adding.{adds_number}
 use Rattle.grain_logic.specs.Setting.{sets_field}
 use Rattle.grain_logic.specs.Shared.{text_and_value}

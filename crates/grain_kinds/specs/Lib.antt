@@ -1,12 +1,6 @@
-pub mod EveryKind
-pub mod Counter
-pub mod Sheet
-pub mod Relay
+pub mod Versions
+pub mod Rows
 pub mod Kinds
-pub mod LawsOfEveryKind
-pub mod LawsOfCounter
-pub mod LawsOfSheet
-pub mod LawsOfRelay
 pub mod LawsOfKinds
 pub mod VersionNumbers
 pub mod inside

@@ -1,12 +1,12 @@
--- The numbers of the versions.
-use Rattle.std.specs.Prelude.{◌≡◌, ℕ, ◌&&◌, nat_le, true}
-use Rattle.std.specs.Cmp.{first_so, second_so}
-use Rattle.std.proofs.lemmas.Bool.{leb-true}
-use Rattle.logic_versions.specs.Versions.{IsVersion, newest}
+-- The nearest version is one.
+use Rattle.std.specs.Prelude.{ℕ, nat_le}
+use Rattle.std.proofs.Common.{arith}
+use Rattle.std.proofs.lemmas.Bool.{leb-false}
+use Rattle.grain_logic.specs.LawsOfForms.{if_holds}
+use Rattle.grain_kinds.specs.Versions.{IsVersion, nearest, newest}
 
--- a number from 1 to the newest is a version's
-pub is_version : (number : ℕ) → (nat_le 1 number && nat_le number newest) ≡ true → IsVersion number
-is_version number within = (
-  leb-true 1 number (first_so (nat_le 1 number) (nat_le number newest) within),
-  leb-true number newest (second_so (nat_le 1 number) (nat_le number newest) within),
-)
+pub nearest_is_version : (number : ℕ) → IsVersion (nearest number)
+nearest_is_version number =
+    if_holds IsVersion (nat_le number 1) _ _ (λ e. (omega arith, omega arith))
+    (λ more. if_holds IsVersion (nat_le newest number) _ _ (λ e. (omega arith, omega arith))
+    (λ fewer. (omega (arith, leb-false number 1 more), omega (arith, leb-false newest number fewer))))

@@ -1,7 +1,7 @@
 //! Laws over the definitions alone, each the contract of a function that does nothing.
 
 ghost use Rattle.std.specs.Prelude.{ℕ, ◌≤◌, ◌≡◌};
-ghost use Rattle.logic_versions.specs.Versions.{newest};
+ghost use Rattle.grain_kinds.specs.Versions.{newest};
 ghost use Rattle.grain_kinds.specs.Kinds.{kinds, logic_of, newest_kinds, table};
 ghost use Rattle.grain_logic.specs.Laws.{IsLawful, KeepsSame};
 ghost use Rattle.grain_logic.specs.Tables.{Extends};

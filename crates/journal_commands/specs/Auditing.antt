@@ -6,7 +6,7 @@ use Rattle.std.specs.Io.KnownBytes.{Appends, Keeps}
 use Rattle.line_protocol.specs.declared.written.WriterCalls.{WriterCalls}
 use Rattle.journal_text.specs.JournalAnswers.{IsJournalText}
 use Rattle.journal_text.specs.Text.{History}
-use Rattle.logic_versions.specs.Versions.{IsVersion}
+use Rattle.grain_kinds.specs.Versions.{IsVersion}
 use Rattle.grain_kinds.specs.Kinds.{logic_of}
 use Rattle.audit_model.specs.Report.{IsReport, TenantReport}
 use Rattle.tenant_audit.specs.Reading.{IsRefused}

@@ -1,8 +1,14 @@
 -- What the program says of a fault, by the status that it ends with.
 use Rattle.command_parts.specs.declared.failure.Cause.{Cause}
 use Rattle.command_parts.specs.declared.failure.End.{End}
-use Rattle.silo_program.specs.Ends.{AreRefusedBy, AskForFolder, EndsAs, FailsBy, IsFaultOf, RefusesFolder, RefusesJournal, RefusesLog}
+use Rattle.silo_program.specs.Ends.{AreRefusedBy, AskForFolder, EndsAs, FailsBy, IsFaultOf, RefusesFolder, RefusesJournal, RefusesLog, RefusesRows, SaysMisfit}
+use Rattle.silo_program.specs.Program.{program_start}
+use Rattle.tenant_gate.specs.Table.{Table}
+use Rattle.idle_collector.specs.Ages.{Ages}
 use Rattle.data_command.specs.Data.{LogClaims}
+use Rattle.data_command.specs.Folder.{FolderFailsBy}
+use Rattle.data_command.specs.declared.fault.DataFault.{DataFault}
+use Rattle.data_command.specs.declared.fault.DataFault.TheVariants as data_fault
 use Rattle.command_parts.specs.Files.{FileClaims}
 use Rattle.std.proofs.Common.{List, Option, inl, inr, ℕ, ⊎_elim, ◌≡◌, ◌≢◌, ◌⊎◌}
 use Rattle.command_parts.specs.declared.failure.ProgramFault.{ProgramFault}
@@ -39,9 +45,9 @@ module _ (words : List Text) (files : FileClaims) (log : LogClaims) (from left :
       (string_bytes text, ⊎_elim (λ words_so. inl (words_so.0, words_so.3)) (λ folder_so. inr folder_so) is, tells)
   refused_by (fault.NoJournal text) two is tells = absurd (cc (two))
 
-  -- with status 4 a file has no journal, or the log of a folder isn't gone on with
+  -- with status 4 a file has no journal, or a folder's checkpoint or log is refused
   pub unread_by : (why : ProgramFault) → status_of why ≡ 4 → IsFaultOf words files log why from left reading before after writing → Tells said told telling (told_text why)
-      → (text : Text) × (RefusesJournal words files text from left before after ⊎ RefusesLog words log text from left reading before after) × Tells said told telling text
+      → (text : Text) × ((RefusesJournal words files text from left before after ⊎ RefusesRows words files text from left before after) ⊎ RefusesLog words log text from left reading before after) × Tells said told telling text
   unread_by (fault.Failed why) four is tells = absurd (cc (four))
   unread_by (fault.Refused text) four is tells = absurd (cc (four))
   unread_by (fault.NoJournal text) four is tells = (string_bytes text, is, tells)
@@ -56,6 +62,16 @@ ends_well end.Differs words files log from left before after said told writing z
 -- ---- nothing was read and nothing written
 
 module _ (words : List Text) (log : LogClaims) (text : Text) (from left : Option (List ℕ)) (reading : Reading) (before after : Option (List ℕ)) where
-  -- if the data have other words
+  -- if these words don't fit the data
+  misfits_unbegun : (tenants : Table) (age : ℕ) (ages : Ages) (sends : ℕ) (why : DataFault) → FolderFailsBy (program_start tenants age ages) sends log why from left reading before after
+      → SaysMisfit why text → IsUnbegun from left before after
+  misfits_unbegun tenants age ages sends data_fault.OtherWords fails said = ⊎_elim (λ start. start.1) (λ run. ⊎_elim (λ start. start.1) (λ stops. absurd stops) run.holds) fails
+  misfits_unbegun tenants age ages sends (data_fault.HasTenant name) fails said = ⊎_elim (λ start. start.1) (λ run. ⊎_elim (λ start. start.1) (λ stops. absurd stops) run.holds) fails
+  misfits_unbegun tenants age ages sends (data_fault.Failed why) fails said = absurd said
+  misfits_unbegun tenants age ages sends data_fault.NoCheckpoint fails said = absurd said
+  misfits_unbegun tenants age ages sends data_fault.NoLog fails said = absurd said
+  misfits_unbegun tenants age ages sends (data_fault.Refused line) fails said = absurd said
+  misfits_unbegun tenants age ages sends (data_fault.Otherwise line) fails said = absurd said
+
   pub folder_unbegun : RefusesFolder words log text from left reading before after → IsUnbegun from left before after
-  folder_unbegun is = ⊎_elim (λ start. start.1) (λ run. ⊎_elim (λ start. start.1) (λ stops. absurd stops) run.holds) is.refused
+  folder_unbegun is = misfits_unbegun is.tenants is.age is.ages is.sends is.why is.refused is.said

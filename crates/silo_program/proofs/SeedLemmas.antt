@@ -17,6 +17,7 @@ use Rattle.command_parts.specs.declared.failure.ProgramFault.TheVariants as faul
 -- the task takes maps
 abbrev pub TakesMaps : Task → Type 0
 TakesMaps (task.Migrate path) = ⊥
+TakesMaps (task.Rows folder tenant) = ⊥
 TakesMaps other = Unit {0}
 
 pub ask_for_work : (words : List Text) (t : Task) → TakesMaps t → AskFor words t → AskForWork words
@@ -26,6 +27,7 @@ ask_for_work words (task.Answer age ages sends journal (Some folder) tenants) ta
 ask_for_work words (task.Serve workers age ages journal telling tenants) takes asked = inl (_, _, inr (inl (workers, age, _, telling, asked)))
 ask_for_work words (task.Audit path) takes asked = inr (path.now, asked)
 ask_for_work words (task.Migrate path) takes asked = absurd takes
+ask_for_work words (task.Rows folder tenant) takes asked = absurd takes
 
 pub with_work : {T : Type 0} (result : Result T Cause) (P : Type 0) → P → IfErr result (λ why. why ≡ cause.Read) → IfErr result (λ why. (why ≡ cause.Read) × P)
 with_work (Ok seed) P p is = tt

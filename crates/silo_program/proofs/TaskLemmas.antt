@@ -8,12 +8,12 @@ use Rattle.data_command.specs.Texts.{IsDataFault}
 use Rattle.data_command.specs.declared.fault.DataFault.{DataFault}
 use Rattle.data_command.specs.declared.fault.DataFault.TheVariants as data_fault
 use Rattle.silo_program.specs.Ends.{AnswersInFolder, AskForFolder, AskForJournal, AskForKeeping, EndsAs, EndsServing, IsAnsweringFault, IsFaultOf, IsFolderFault}
-use Rattle.silo_program.specs.Ends.{IsNamingFault, IsServingFault, IsStreamFault, LeavesFiles, RefusesLog, SaysFault, ServesInput, ShowsText}
+use Rattle.silo_program.specs.Ends.{IsNamingFault, IsServingFault, IsStreamFault, LeavesFiles, RefusesFolder, RefusesLog, SaysFault, SaysMisfit, ServesInput, ShowsText}
 use Rattle.command_parts.specs.Files.{FileClaims}
 use Rattle.command_parts.specs.Setups.{Start}
 use Rattle.command_parts.specs.Streams.{IsUnbegun}
 use Rattle.command_parts.specs.declared.failure.Cause.TheVariants as cause
-use Rattle.std.proofs.Common.{Bool, IfErr, IfOk, List, None, Option, Result, Some, [], inl, inr, refl, subst, sym, true, ℕ, ⊎_elim, ◌≡◌, ◌⊎◌}
+use Rattle.std.proofs.Common.{Bool, IfErr, IfOk, List, None, Option, Result, Some, [], inl, inr, refl, subst, sym, true, ℕ, ⊎_elim, ◌≡◌}
 use Rattle.std.proofs.lemmas.Result.{IfErr-weaker, IfOk-weaker}
 use Rattle.std.specs.Prelude.{string_bytes}
 use Rattle.std.specs.Io.KnownBytes.{Keeps}
@@ -28,7 +28,7 @@ use Rattle.line_commands.specs.Answering.{WritesJournalsAtMost}
 use Rattle.silo_program.specs.Program.{program_start}
 use Rattle.silo_words.specs.Ages.{IsWhyNoAges, NamesAges}
 use Rattle.silo_words.specs.Tenants.{IsReason, NameTenants}
-use Rattle.silo_words.specs.Words.{AskForAnswering, AskForAudit, AskForData, AskForMigration, AskForServing, AskForSteps}
+use Rattle.silo_words.specs.Words.{AskForAnswering, AskForAudit, AskForData, AskForMigration, AskForRows, AskForServing, AskForSteps}
 use Rattle.silo_words.specs.declared.task.Telling.{Telling}
 use Rattle.silo_program.specs.Arguments.{IsAgesFault, IsTenantsFault}
 use Rattle.journal_commands.specs.Auditing.{AuditsFile}
@@ -39,6 +39,7 @@ use Rattle.silo_words.specs.declared.ages.AgesFault.TheVariants as ages
 use Rattle.silo_words.specs.declared.tenants.TenantsFault.{TenantsFault}
 use Rattle.silo_words.specs.declared.tenants.TenantsFault.TheVariants as tenants
 use Rattle.journal_commands.specs.Migrating.{IsMigrationFault}
+use Rattle.rows_command.specs.Rows.{IsRowsFault, checkpoint_path}
 
 -- ---- what was written to files
 
@@ -150,6 +151,18 @@ module _ (words : List Text) (files : FileClaims) (log : LogClaims) (from left :
   answering_faults result is =
       IfErr-weaker result (λ why. IsAnsweringFault words files why from left reading before after writing) (λ why. IsFaultOf words files log why from left reading before after writing) answering_fault is
 
+-- ---- lines aren't served
+
+module _ (words : List Text) (files : FileClaims) (log : LogClaims) (from left : Option (List ℕ)) (reading : Reading) (before after : Option (List ℕ)) (writing : WriterCalls) where
+  serving_fault : (why : ProgramFault) → IsServingFault words files why from left reading before after writing → IsFaultOf words files log why from left reading before after writing
+  serving_fault (fault.Failed why) is = ⊎_elim (λ early. inl (inl early)) (λ fails. inr (inr (inl fails))) is
+  serving_fault (fault.Refused text) is = inl is
+  serving_fault (fault.NoJournal text) is = absurd is
+
+  pub serving_faults : {T : Type 0} (result : Result T ProgramFault) → IfErr result (λ why. IsServingFault words files why from left reading before after writing) → IfErr result (λ why. IsFaultOf words files log why from left reading before after writing)
+  serving_faults result is =
+      IfErr-weaker result (λ why. IsServingFault words files why from left reading before after writing) (λ why. IsFaultOf words files log why from left reading before after writing) serving_fault is
+
 -- ---- lines are answered at once
 
 module _ (words : List Text) (files : FileClaims) (log : LogClaims) (from left : Option (List ℕ)) (age : ℕ) (given : Option Text) (sends : ℕ) (tenants : Table) (ages : Ages) (arguments : List Text) where
@@ -220,6 +233,12 @@ module _ (words : List Text) (files : FileClaims) (log : LogClaims) (from left :
     refused_by asked named reading why text fails said =
         record { tenants = tenants; age = age; ages = ages; sends = sends; folder = folder; sync = sync; asked = keeping asked named; why = why; refused = fails; said = said }
 
+    -- the words don't fit it
+    misfits : AskForData words age given sends folder sync arguments → NameTenants arguments tenants × NamesAges given ages → (reading : Reading) (why : DataFault) (text : Text)
+        → FolderFailsBy (program_start tenants age ages) sends log why from left reading before after → SaysMisfit why text → RefusesFolder words log text from left reading before after
+    misfits asked named reading why text fails said =
+        record { tenants = tenants; age = age; ages = ages; sends = sends; folder = folder; sync = sync; asked = keeping asked named; why = why; refused = fails; said = said }
+
     -- it wasn't, and this is said
     pub folder_failed : (reading : Reading) (writing : WriterCalls) → AskForData words age given sends folder sync arguments → NameTenants arguments tenants × NamesAges given ages → (why : DataFault) (told : ProgramFault) → IsDataFault why told
         → FolderFailsBy (program_start tenants age ages) sends log why from left reading before after → IsFolderFault words files log told from left reading before after writing
@@ -227,8 +246,11 @@ module _ (words : List Text) (files : FileClaims) (log : LogClaims) (from left :
         (inr (record { tenants = tenants; age = age; ages = ages; sends = sends; folder = folder; sync = sync; asked = keeping asked named; failed = fails }))
     folder_failed reading writing asked named data_fault.OtherWords (fault.Failed why) is fails = lacks_memory reading writing why is (unbegun reading data_fault.OtherWords (λ own view r. r) fails)
     folder_failed reading writing asked named data_fault.OtherWords (fault.Refused text) is fails =
-        inr (record { tenants = tenants; age = age; ages = ages; sends = sends; folder = folder; sync = sync; asked = keeping asked named; refused = fails; said = is })
+        inr (misfits asked named reading data_fault.OtherWords (string_bytes text) fails is)
     folder_failed reading writing asked named data_fault.OtherWords (fault.NoJournal text) is fails = absurd is
+    folder_failed reading writing asked named (data_fault.HasTenant name) (fault.Failed why) is fails = lacks_memory reading writing why is (unbegun reading (data_fault.HasTenant name) (λ own view r. r) fails)
+    folder_failed reading writing asked named (data_fault.HasTenant name) (fault.Refused text) is fails = inr (misfits asked named reading (data_fault.HasTenant name) (string_bytes text) fails is)
+    folder_failed reading writing asked named (data_fault.HasTenant name) (fault.NoJournal text) is fails = absurd is
     folder_failed reading writing asked named data_fault.NoCheckpoint (fault.Failed why) is fails = lacks_memory reading writing why is (unbegun reading data_fault.NoCheckpoint (λ own view r. r) fails)
     folder_failed reading writing asked named data_fault.NoCheckpoint (fault.Refused text) is fails = absurd is
     folder_failed reading writing asked named data_fault.NoCheckpoint (fault.NoJournal text) is fails = refused_by asked named reading data_fault.NoCheckpoint (string_bytes text) fails is
@@ -281,11 +303,25 @@ module _ (words : List Text) (files : FileClaims) (log : LogClaims) (path : Text
 
 module _ (words : List Text) (files : FileClaims) (log : LogClaims) (path : Text) (asked : AskForMigration words path) (same : files.same) (from left : Option (List ℕ)) (reading : Reading) (before after : Option (List ℕ)) (writing : WriterCalls) (kept : Keeps from left) where
   migration_fault : (why : ProgramFault) → IsMigrationFault (files.may_hold path) (files.may_fail path) why before after writing → IsFaultOf words files log why from left reading before after writing
-  migration_fault (fault.Failed why) is = inl (inr (record { path = path; asked = asked; kept = kept; unwritten = same; failed = is }))
+  migration_fault (fault.Failed why) is = inl (inr (inl (record { path = path; asked = asked; kept = kept; unwritten = same; failed = is })))
   migration_fault (fault.Refused text) is = absurd is
-  migration_fault (fault.NoJournal text) is = inl (record { path = path; asked = inr asked; kept = kept; unwritten = same; refused = is })
+  migration_fault (fault.NoJournal text) is = inl (inl (record { path = path; asked = inr asked; kept = kept; unwritten = same; refused = is }))
 
   pub migration_faults : {T : Type 0} (result : Result T ProgramFault) → IfErr result (λ why. IsMigrationFault (files.may_hold path) (files.may_fail path) why before after writing)
       → IfErr result (λ why. IsFaultOf words files log why from left reading before after writing)
   migration_faults result is =
       IfErr-weaker result (λ why. IsMigrationFault (files.may_hold path) (files.may_fail path) why before after writing) (λ why. IsFaultOf words files log why from left reading before after writing) migration_fault is
+
+-- ---- rows aren't printed
+
+module _ (words : List Text) (files : FileClaims) (log : LogClaims) (folder : Text) (tenant : Option Text) (asked : AskForRows words folder tenant) (same : files.same) (from left : Option (List ℕ)) (reading : Reading) (before after : Option (List ℕ)) (writing : WriterCalls) (kept : Keeps from left) where
+  rows_fault : (why : ProgramFault) → IsRowsFault (files.may_hold (checkpoint_path folder)) (files.may_fail (checkpoint_path folder)) tenant why before after writing → IsFaultOf words files log why from left reading before after writing
+  rows_fault (fault.Failed why) is = inl (inr (inr (record { folder = folder; tenant = tenant; asked = asked; kept = kept; unwritten = same; failed = is })))
+  rows_fault (fault.Refused text) is = absurd is
+  rows_fault (fault.NoJournal text) is = inl (inr (record { folder = folder; tenant = tenant; asked = asked; kept = kept; unwritten = same; refused = is }))
+
+  pub rows_faults : {T : Type 0} (result : Result T ProgramFault) → IfErr result (λ why. IsRowsFault (files.may_hold (checkpoint_path folder)) (files.may_fail (checkpoint_path folder)) tenant why before after writing)
+      → IfErr result (λ why. IsFaultOf words files log why from left reading before after writing)
+  rows_faults result is =
+      IfErr-weaker result (λ why. IsRowsFault (files.may_hold (checkpoint_path folder)) (files.may_fail (checkpoint_path folder)) tenant why before after writing)
+      (λ why. IsFaultOf words files log why from left reading before after writing) rows_fault is

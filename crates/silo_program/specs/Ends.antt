@@ -9,7 +9,7 @@ use Rattle.line_protocol.specs.declared.written.WriterCalls.{WriterCalls}
 use Rattle.line_protocol.specs.declared.fault.LineFault.{LineFault}
 use Rattle.silo_program.specs.Program.{program_start}
 use Rattle.silo_words.specs.Words.{AreRefused, AskForAnswering, AskForAudit, AskForData, AskForHelp, AskForMigration, AskForNothing}
-use Rattle.silo_words.specs.Words.{AskForServing, AskForSteps, AskForVersion, EndsWithExample, nothing_told}
+use Rattle.silo_words.specs.Words.{AskForRows, AskForServing, AskForSteps, AskForVersion, EndsWithExample, nothing_told}
 use Rattle.silo_words.specs.declared.task.Telling.{Telling}
 use Rattle.command_parts.specs.Status.{cause_of}
 use Rattle.silo_program.specs.Arguments.{no_ages_text, refused_text, version_text}
@@ -22,12 +22,14 @@ use Rattle.command_parts.specs.Files.{FileClaims}
 use Rattle.line_commands.specs.Answering.{AnsweringFailsBy, AnswersLanes, WritesJournals}
 use Rattle.data_command.specs.Data.{LogClaims}
 use Rattle.data_command.specs.Folder.{FolderAnswers, FolderFailsBy, FolderHas, FolderLasts}
-use Rattle.data_command.specs.Texts.{no_checkpoint_text, no_log_text, other_words_text, otherwise_text, refused_text as refused_line_text}
+use Rattle.data_command.specs.Texts.{has_tenant_text, no_checkpoint_text, no_log_text, other_words_text, otherwise_text}
+use Rattle.data_command.specs.Texts.{refused_text as refused_line_text}
 use Rattle.data_command.specs.declared.fault.DataFault.{DataFault}
 use Rattle.data_command.specs.declared.fault.DataFault.TheVariants as data_fault
 use Rattle.serve_command.specs.Serving.{ServesLanes, ServingFailsBy, WritesServed}
 use Rattle.journal_commands.specs.Auditing.{AuditFailsBy, AuditsFile, RefusesFile}
 use Rattle.journal_commands.specs.Migrating.{MigratesFile, MigrationFailsBy}
+use Rattle.rows_command.specs.Rows.{PrintsRows, RefusesPoint, RowsFailBy, checkpoint_path}
 use Rattle.command_parts.specs.declared.failure.Cause.{Cause}
 use Rattle.command_parts.specs.declared.failure.Cause.TheVariants as cause
 use Rattle.command_parts.specs.declared.failure.End.{End}
@@ -281,8 +283,14 @@ pub record FailsInFolder (words : List Text) (log : LogClaims) (why : Cause) (fr
   pub asked : AskForKeeping words tenants age ages sends folder sync
   pub failed : FolderFailsBy (program_start tenants age ages) sends log (data_fault.Failed why) from left reading before after
 
--- The words name tenants and a folder whose checkpoint or log has other words, and that was said. Nothing was read and nothing written,
--- and both are as they were.
+-- what is said of a folder that the words don't fit
+abbrev pub SaysMisfit : DataFault → Text → Type 0
+SaysMisfit data_fault.OtherWords text = text ≡ other_words_text
+SaysMisfit (data_fault.HasTenant name) text = text ≡ has_tenant_text name.bytes
+SaysMisfit why text = ⊥
+
+-- The words name tenants and a folder whose checkpoint or log has other words, and can't change to these; and that was said. Nothing was
+-- read and nothing written, and both are as they were.
 pub record RefusesFolder (words : List Text) (log : LogClaims) (text : Text) (from left : Option (List ℕ)) (reading : Reading)
     (before after : Option (List ℕ)) : Type 0 where
   pub tenants : Table
@@ -292,8 +300,9 @@ pub record RefusesFolder (words : List Text) (log : LogClaims) (text : Text) (fr
   pub folder : Text
   pub sync : Bool
   pub asked : AskForKeeping words tenants age ages sends folder sync
-  pub refused : FolderFailsBy (program_start tenants age ages) sends log data_fault.OtherWords from left reading before after
-  pub said : text ≡ other_words_text
+  pub why : DataFault
+  pub refused : FolderFailsBy (program_start tenants age ages) sends log why from left reading before after
+  pub said : SaysMisfit why text
 
 -- what is said of a folder with which no silo goes on under the same words
 abbrev pub SaysFault : DataFault → Text → Type 0
@@ -375,6 +384,38 @@ pub record FailsInMigration (words : List Text) (files : FileClaims) (why : Caus
   pub unwritten : files.same
   pub failed : MigrationFailsBy (files.may_hold path) (files.may_fail path) why before after writing
 
+-- ---- rows are printed
+
+-- The words name a folder, and what its checkpoint has was printed: of the tenant, if one is named. Nothing was read from the input, and no
+-- file was written.
+pub record ListsRows (words : List Text) (files : FileClaims) (from left before after : Option (List ℕ)) : Type 0 where
+  pub folder : Text
+  pub tenant : Option Text
+  pub asked : AskForRows words folder tenant
+  pub kept : Keeps from left
+  pub unwritten : files.same
+  pub printed : PrintsRows (files.may_hold (checkpoint_path folder)) tenant before after
+
+-- The words name a folder, and printing what its checkpoint has failed. Nothing was read from the input, and no file was written.
+pub record FailsInRows (words : List Text) (files : FileClaims) (why : Cause) (from left before after : Option (List ℕ))
+    (writing : WriterCalls) : Type 0 where
+  pub folder : Text
+  pub tenant : Option Text
+  pub asked : AskForRows words folder tenant
+  pub kept : Keeps from left
+  pub unwritten : files.same
+  pub failed : RowsFailBy (files.may_hold (checkpoint_path folder)) (files.may_fail (checkpoint_path folder)) tenant why before after
+      writing
+
+-- The words name a folder whose checkpoint is refused, and that was said. Nothing was read from the input, and no file was written.
+pub record RefusesRows (words : List Text) (files : FileClaims) (text : Text) (from left before after : Option (List ℕ)) : Type 0 where
+  pub folder : Text
+  pub tenant : Option Text
+  pub asked : AskForRows words folder tenant
+  pub kept : Keeps from left
+  pub unwritten : files.same
+  pub refused : RefusesPoint (files.may_hold (checkpoint_path folder)) text before after
+
 -- ---- there is no journal
 
 -- The words name a file that has no journal, and that was said. Nothing was read from the input, and no file was written.
@@ -387,13 +428,15 @@ pub record RefusesJournal (words : List Text) (files : FileClaims) (text : Text)
 
 -- ---- how the program ends
 
--- All is well: the words ask for a text, or to migrate a journal, which was written, or for steps, which were answered, or for lines to
--- be served or answered at once, with a folder of data or without, which they were, or for an audit, which found no difference. The same
--- of lines that were served, of which this text is to be told. A tenant differs: the words ask for an audit, which found that.
+-- All is well: the words ask for a text, or to migrate a journal, or to print rows, which was written, or for steps, which were answered,
+-- or for lines to be served or answered at once, with a folder of data or without, which they were, or for an audit, which found no
+-- difference. The same of lines that were served, of which this text is to be told. A tenant differs: the words ask for an audit, which
+-- found that.
 abbrev pub EndsAs : End → List Text → FileClaims → LogClaims → Option (List ℕ) → Option (List ℕ) → Option (List ℕ) → Option (List ℕ)
     → Type 0
 EndsAs end.Well words files log from left before after =
-    (ShowsText words from left before after ⊎ Migrates words files from left before after)
+    (ShowsText words from left before after
+    ⊎ (Migrates words files from left before after ⊎ ListsRows words files from left before after))
     ⊎ (ServesSteps words from left before after
     ⊎ (ServesInput words files nothing_told from left before after []
     ⊎ (AnswersAtOnce words files from left before after
@@ -415,7 +458,8 @@ EndsServing end.Differs words files telling from left before after = ⊥
 abbrev pub FailsBy : List Text → FileClaims → LogClaims → Cause → Option (List ℕ) → Option (List ℕ) → Reading → Option (List ℕ)
     → Option (List ℕ) → WriterCalls → Type 0
 FailsBy words files log why from left reading before after writing =
-    (FailsEarly words why from left before after writing ⊎ FailsInMigration words files why from left before after writing)
+    (FailsEarly words why from left before after writing
+    ⊎ (FailsInMigration words files why from left before after writing ⊎ FailsInRows words files why from left before after writing))
     ⊎ (FailsInSteps words why from left reading before after writing
     ⊎ (FailsInServing words files why from left reading before after writing
     ⊎ (FailsInAnswering words files why from left reading before after writing
@@ -474,5 +518,6 @@ IsFaultOf words files log (fault.Refused text) from left reading before after wr
     (AreRefusedBy words (string_bytes text) × Keeps from left × Keeps before after × files.same)
     ⊎ RefusesFolder words log (string_bytes text) from left reading before after
 IsFaultOf words files log (fault.NoJournal text) from left reading before after writing =
-    RefusesJournal words files (string_bytes text) from left before after
+    (RefusesJournal words files (string_bytes text) from left before after
+    ⊎ RefusesRows words files (string_bytes text) from left before after)
     ⊎ RefusesLog words log (string_bytes text) from left reading before after

@@ -2,7 +2,7 @@
 use Rattle.std.specs.Prelude.{ℕ}
 use Rattle.tenant_gate.specs.Table.{Table}
 use Rattle.idle_collector.specs.Ages.{Ages}
-use Rattle.logic_versions.specs.Versions.{newest}
+use Rattle.grain_kinds.specs.Versions.{newest}
 use Rattle.grain_kinds.specs.Kinds.{newest_kinds}
 use Rattle.command_parts.specs.Setups.{Start, Version, starting, version_of}
 

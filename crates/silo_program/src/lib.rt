@@ -4,9 +4,9 @@
 //! says what was read, and what was written to files, to the output and to the errors. The crate `silo_words` reads the
 //! words, the tenant arguments among them. Each command is done by a crate of its own: `line_commands` takes the steps
 //! of an input, or answers its lines at once, `data_command` does so with a folder of data, `serve_command` serves them
-//! by threads, and `journal_commands` audits the journal of a file, or migrates it; `command_parts` has what they
-//! share. Here `program` calls them, and `seeding` gives the maps of a task their seed.
-//! How the program ends stands in `specs/Ends.antt`.
+//! by threads, `journal_commands` audits the journal of a file, or migrates it, and `rows_command` prints what a folder's
+//! checkpoint has; `command_parts` has what they share. Here `program` calls them, and `seeding` gives the maps of a task
+//! their seed. How the program ends stands in `specs/Ends.antt`.
 #![tactic(auto)]
 
 mod program;

@@ -14,7 +14,8 @@ ghost use Rattle.command_parts.specs.Streams.{BreaksOff, Tells, TellsEnd};
 ghost use Rattle.command_parts.specs.Files.{claims};
 ghost use Rattle.silo_program.specs.Ends.{AnswersAtOnce, AnswersInFolder, AreRefusedBy, AskForFolder, AskForJournal, EndsAs, EndsServing};
 ghost use Rattle.silo_program.specs.Ends.{FailsBy, IsAnsweringFault, IsFaultOf, IsFolderFault, IsNamingFault, IsServingFault};
-ghost use Rattle.silo_program.specs.Ends.{IsStreamFault, LeavesFiles, RefusesFolder, RefusesJournal, RefusesLog, ServesSteps, ShowsText};
+ghost use Rattle.silo_program.specs.Ends.{IsStreamFault, LeavesFiles, RefusesFolder, RefusesJournal, RefusesLog, RefusesRows};
+ghost use Rattle.silo_program.specs.Ends.{ServesSteps, ShowsText};
 ghost use Rattle.command_parts.specs.declared.failure.End.{End as EndValue};
 
 use crate::seeding::{random_number, seed_for};
@@ -27,6 +28,7 @@ use grain_id::HashSeed;
 use journal_commands::{audit_file, migrate_file};
 use line_commands::{answer_input, answer_steps};
 use line_protocol::{Input, Output};
+use rows_command::print_rows;
 use serve_command::{asks_to_tell, serve_lines};
 use silo_words::{
     AgesFault, Data, Task, Telling, TenantsFault, WordsFault, read_ages, read_tenants, read_words,
@@ -413,6 +415,7 @@ pub fn answer<
         ),
         Task::Audit { path } => audit_file(rt, seed, path, &*files, output, audits),
         Task::Migrate { path } => migrate_file(alloc, path, &*files, output),
+        Task::Rows { folder, tenant } => print_rows(alloc, folder, *tenant, &*files, output),
     }
 }
 
@@ -481,11 +484,14 @@ pub fn run_program<
     ensures untouched { result ≡ 2 → ((folder : Text) → ¬ AskForFolder (texts_of words.now) folder) → files.new ≡ files.old }
 
     // An audit was requested, or a journal to be migrated, the file has no journal, and what was written to the errors
-    // says which line is refused; or a folder of data was requested, and what was written to the errors says at which
-    // line its log isn't continued.
+    // says which line is refused; or rows were requested, and what was written to the errors says that the checkpoint is
+    // refused; or a folder of data was requested, and what was written to the errors says at which line its log isn't
+    // continued.
     ensures no_journal { result ≡ 4 → (text : Text)
-        × (RefusesJournal (texts_of words.now) (claims F.may_hold F.may_fail F.may_leave files.old files.new) text
+        × ((RefusesJournal (texts_of words.now) (claims F.may_hold F.may_fail F.may_leave files.old files.new) text
         (R.remaining input.old.reader) (R.remaining input.new.reader) (W.contents output.old.writer) (W.contents output.new.writer)
+        ⊎ RefusesRows (texts_of words.now) (claims F.may_hold F.may_fail F.may_leave files.old files.new) text
+        (R.remaining input.old.reader) (R.remaining input.new.reader) (W.contents output.old.writer) (W.contents output.new.writer))
         ⊎ RefusesLog (texts_of words.now) (log_claims F.begun F.acts F.past F.failed files.old files.new) text
         (R.remaining input.old.reader) (R.remaining input.new.reader) input.new.lines
         (W.contents output.old.writer) (W.contents output.new.writer))

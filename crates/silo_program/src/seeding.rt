@@ -36,7 +36,7 @@ fn random_seed<H: RandomSource>(rt: &H) -> Result<HashSeed, Cause>
 }
 
 /// The seed by which a task's maps hash grains and clients: another one each time, so that nobody finds names of one hash
-/// before. To migrate a journal takes no map, and no seed. Nothing that a task promises depends on it.
+/// before. To migrate a journal, and to print rows, takes no map, and no seed. Nothing that a task promises depends on it.
 ///
 /// # Errors
 ///
@@ -50,5 +50,6 @@ pub fn seed_for<H: RandomSource>(rt: &H, task: &Task) -> Result<HashSeed, Cause>
         Task::Serve { .. } => random_seed(rt),
         Task::Audit { .. } => random_seed(rt),
         Task::Migrate { .. } => Ok(HashSeed::fixed()),
+        Task::Rows { .. } => Ok(HashSeed::fixed()),
     }
 }

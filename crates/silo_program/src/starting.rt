@@ -1,7 +1,7 @@
 //! What the program runs: the newest version of its kinds. It is named here alone.
 
 ghost use Rattle.std.specs.Prelude.{◌≡◌};
-ghost use Rattle.logic_versions.specs.Versions.{newest};
+ghost use Rattle.grain_kinds.specs.Versions.{newest};
 ghost use Rattle.grain_kinds.specs.Kinds.{newest_kinds};
 ghost use Rattle.command_parts.specs.Setups.{starting, version_of};
 ghost use Rattle.silo_program.specs.Program.{program_start};

@@ -11,8 +11,8 @@ use Rattle.clap.specs.declared.builder.action.ArgAction.TheVariants.{Append, Set
 use Rattle.clap.specs.declared.builder.value_parser.ValueParser.TheVariants.{Unsigned}
 use Rattle.clap.specs.declared.error.kind.ErrorKind.{ErrorKind}
 use Rattle.clap.specs.declared.error.kind.ErrorKind.TheVariants.{DisplayHelp, DisplayVersion, OutOfMemory}
-use Rattle.silo_words.specs.declared.fault.TheConstants.{ANSWER_EXAMPLE, AUDIT_EXAMPLE, MIGRATE_EXAMPLE, SERVE_EXAMPLE, SILO_EXAMPLE}
-use Rattle.silo_words.specs.declared.fault.TheConstants.{STEPS_EXAMPLE}
+use Rattle.silo_words.specs.declared.fault.TheConstants.{ANSWER_EXAMPLE, AUDIT_EXAMPLE, MIGRATE_EXAMPLE, ROWS_EXAMPLE, SERVE_EXAMPLE}
+use Rattle.silo_words.specs.declared.fault.TheConstants.{SILO_EXAMPLE, STEPS_EXAMPLE}
 use Rattle.silo_words.specs.declared.fault.WordsFault.{WordsFault}
 use Rattle.silo_words.specs.declared.fault.WordsFault.TheVariants as fault
 use Rattle.silo_words.specs.declared.task.Data.{Data}
@@ -69,6 +69,13 @@ tenants_rule = record (new_rule (codes "tenants")) {
 abbrev pub path_rule : Rule
 path_rule = record (new_rule (codes "path")) { value_names = 1; required = true }
 
+-- `DIR`, one text, and `TENANT`, which may be left out
+abbrev pub folder_rule : Rule
+folder_rule = record (new_rule (codes "folder")) { value_names = 1; required = true }
+
+abbrev pub tenant_rule : Rule
+tenant_rule = record (new_rule (codes "tenant")) { value_names = 1 }
+
 -- `steps`, with the options for the ages and the tenant arguments
 abbrev pub steps_app : App
 steps_app = with_rule (with_rule (with_rule (new_app (codes "steps")) age_rule) ages_rule) tenants_rule
@@ -95,11 +102,15 @@ audit_app = with_rule (new_app (codes "audit")) path_rule
 abbrev pub migrate_app : App
 migrate_app = with_rule (new_app (codes "migrate")) path_rule
 
--- `silo`, which has a version and wants one of the five
+-- `rows`, with a folder, and perhaps a tenant
+abbrev pub rows_app : App
+rows_app = with_rule (with_rule (new_app (codes "rows")) folder_rule) tenant_rule
+
+-- `silo`, which has a version and wants one of the six
 abbrev pub silo_shape : Shape
 silo_shape = record (new_app (codes "silo")).top { has_version = true; subcommand_required = true }
 
--- `silo` with the first, with the first two, three and four, and with all
+-- `silo` with the first, with the first two, three, four and five, and with all
 abbrev pub stepping_app : App
 stepping_app = with_subcommand (record (new_app (codes "silo")) { top = silo_shape }) steps_app.top
 
@@ -112,8 +123,11 @@ serving_app = with_subcommand answering_app serve_app.top
 abbrev pub auditing_app : App
 auditing_app = with_subcommand serving_app audit_app.top
 
+abbrev pub migrating_app : App
+migrating_app = with_subcommand auditing_app migrate_app.top
+
 abbrev pub silo_app : App
-silo_app = with_subcommand auditing_app migrate_app.top
+silo_app = with_subcommand migrating_app rows_app.top
 
 -- ---- the words
 
@@ -259,6 +273,12 @@ pub record FindMigration (name : Text) (rows : List Row) (path : Text) : Type 0 
   pub command : name ≡ codes "migrate"
   pub given : Some path ≡ first_of (codes "path") rows
 
+-- `rows`, with the folder and the tenant, if there is one, that were found
+pub record FindRows (name : Text) (rows : List Row) (folder : Text) (tenant : Option Text) : Type 0 where
+  pub command : name ≡ codes "rows"
+  pub given : Some folder ≡ first_of (codes "folder") rows
+  pub chosen : tenant ≡ first_of (codes "tenant") rows
+
 -- ---- what the words ask for
 
 -- what clap finds in the words: the subcommand's name and rows
@@ -319,6 +339,14 @@ pub record AskForMigration (words : List Text) (path : Text) : Type 0 where
   pub is : found_in words ≡ Some (name, rows)
   pub found : FindMigration name rows path
 
+-- The words ask to print what the checkpoint in the folder has: of the tenant, if one is named.
+pub record AskForRows (words : List Text) (folder : Text) (tenant : Option Text) : Type 0 where
+  pub taken : AreTaken words
+  pub name : Text
+  pub rows : List Row
+  pub is : found_in words ≡ Some (name, rows)
+  pub found : FindRows name rows folder tenant
+
 -- what was found makes no task
 pub record MakesNoTask (name : Text) (rows : List Row) : Type 0 where
   pub steps : (age : ℕ) (ages : Option Text) (tenants : List Text) → ¬ FindSteps name rows age ages tenants
@@ -330,6 +358,7 @@ pub record MakesNoTask (name : Text) (rows : List Row) : Type 0 where
       → ¬ FindServing name rows workers age ages journal telling tenants
   pub audit : (path : Text) → ¬ FindAudit name rows path
   pub migration : (path : Text) → ¬ FindMigration name rows path
+  pub listing : (folder : Text) (tenant : Option Text) → ¬ FindRows name rows folder tenant
 
 -- What was found in the words makes no task: a number is out of its range, or something that a task wants is not there, or two of its
 -- parts don't go together.
@@ -357,6 +386,7 @@ IsTaskOf name rows (task.Serve workers age ages journal telling tenants) = FindS
     (option_map (λ text. text.now) ages) (option_map (λ path. path.now) journal) telling (map (λ t. t.now) tenants.items)
 IsTaskOf name rows (task.Audit path) = FindAudit name rows path.now
 IsTaskOf name rows (task.Migrate path) = FindMigration name rows path.now
+IsTaskOf name rows (task.Rows folder tenant) = FindRows name rows folder.now (option_map (λ text. text.now) tenant)
 
 -- the folder of data that was found, if one was: then there is no journal, and if none was there is no flag of it
 abbrev pub IsData : List Row → Option Data → Type 0
@@ -383,6 +413,7 @@ AskFor words (task.Serve workers age ages journal telling tenants) = AskForServi
     (option_map (λ path. path.now) journal) telling (map (λ t. t.now) tenants.items)
 AskFor words (task.Audit path) = AskForAudit words path.now
 AskFor words (task.Migrate path) = AskForMigration words path.now
+AskFor words (task.Rows folder tenant) = AskForRows words folder.now (option_map (λ text. text.now) tenant)
 
 -- the word of that number, the program's name being the first, or nothing
 abbrev pub word_at : ℕ → List Text → Text
@@ -398,7 +429,8 @@ example_of name = if same_text name (codes "steps") then STEPS_EXAMPLE.now
     else (if same_text name (codes "answer") then ANSWER_EXAMPLE.now
     else (if same_text name (codes "serve") then SERVE_EXAMPLE.now
     else (if same_text name (codes "audit") then AUDIT_EXAMPLE.now
-    else (if same_text name (codes "migrate") then MIGRATE_EXAMPLE.now else SILO_EXAMPLE.now))))
+    else (if same_text name (codes "migrate") then MIGRATE_EXAMPLE.now
+    else (if same_text name (codes "rows") then ROWS_EXAMPLE.now else SILO_EXAMPLE.now)))))
 
 -- the text ends with the example of the command that the words name, or of none
 abbrev pub EndsWithExample : List Text → Text → Type 0
@@ -449,11 +481,14 @@ pub record TellsWordsApart : Type 0 where
       (record { explain_lines = false; summary = true }) (codes "red:2:4" ∷ [])
   pub audit : AskForAudit (after_silo (codes "audit" ∷ codes "day" ∷ [])) (codes "day")
   pub migration : AskForMigration (after_silo (codes "migrate" ∷ codes "day" ∷ [])) (codes "day")
+  pub listing : AskForRows (after_silo (codes "rows" ∷ codes "kept" ∷ [])) (codes "kept") None
+  pub listing_one : AskForRows (after_silo (codes "rows" ∷ codes "kept" ∷ codes "red" ∷ [])) (codes "kept") (Some (codes "red"))
   pub help : AskForHelp (after_silo (codes "--help" ∷ []))
   pub help_of_steps : AskForHelp (after_silo (codes "steps" ∷ codes "-h" ∷ []))
   pub help_of_answer : AskForHelp (after_silo (codes "answer" ∷ codes "-h" ∷ []))
   pub help_of_serve : AskForHelp (after_silo (codes "serve" ∷ codes "-h" ∷ []))
   pub help_of_migrate : AskForHelp (after_silo (codes "migrate" ∷ codes "-h" ∷ []))
+  pub help_of_rows : AskForHelp (after_silo (codes "rows" ∷ codes "-h" ∷ []))
   pub version : AskForVersion (after_silo (codes "--version" ∷ []))
   pub nothing : AreRefused (after_silo [])
   pub no_age : AreRefused (after_silo (codes "steps" ∷ codes "--age" ∷ codes "0" ∷ codes "red:2:4" ∷ []))
@@ -475,3 +510,5 @@ pub record TellsWordsApart : Type 0 where
   pub no_tenant_to_serve : AreRefused (after_silo (codes "serve" ∷ []))
   pub no_path : AreRefused (after_silo (codes "audit" ∷ []))
   pub no_path_to_migrate : AreRefused (after_silo (codes "migrate" ∷ []))
+  pub no_folder_to_list : AreRefused (after_silo (codes "rows" ∷ []))
+  pub two_tenants_to_list : AreRefused (after_silo (codes "rows" ∷ codes "kept" ∷ codes "red" ∷ codes "blue" ∷ []))

@@ -4,9 +4,9 @@ ghost use Rattle.std.specs.Prelude.{◌≡◌, IfOk, false, true};
 ghost use Rattle.clap.specs.Words.{App, Rule, app_of, new_app, rule_of, with_rule, with_subcommand};
 ghost use Rattle.clap.specs.declared.builder.command.Command.TheViews.{out-Command as fields_of};
 ghost use Rattle.silo_words.specs.Commands.{IsApp, bare_app, flag_rule, text_rule};
-ghost use Rattle.silo_words.specs.Words.{age_rule, ages_rule, answer_app, audit_app, data_rule, explain_rule, journal_rule, migrate_app};
-ghost use Rattle.silo_words.specs.Words.{no_sync_rule, path_rule, sends_rule, serve_app, silo_app, steps_app, summary_rule, tenants_rule};
-ghost use Rattle.silo_words.specs.Words.{workers_rule};
+ghost use Rattle.silo_words.specs.Words.{age_rule, ages_rule, answer_app, audit_app, data_rule, explain_rule, folder_rule, journal_rule};
+ghost use Rattle.silo_words.specs.Words.{migrate_app, no_sync_rule, path_rule, rows_app, sends_rule, serve_app, silo_app, steps_app};
+ghost use Rattle.silo_words.specs.Words.{summary_rule, tenant_rule, tenants_rule, workers_rule};
 
 use clap::{Arg, ArgAction, Command, value_parser};
 use std::alloc::{AllocError, Global};
@@ -134,6 +134,25 @@ fn path_argument<'a>(alloc: Global) -> Arg<'a>
         .required(true)
 }
 
+fn folder_argument<'a>(alloc: Global) -> Arg<'a>
+    ensures rule { rule_of result ≡ folder_rule }
+    ensures local { result.global ≡ false }
+{
+    Arg::new(alloc, "folder")
+        .value_name("DIR")
+        .help("The folder of data that `silo answer --data` keeps")
+        .required(true)
+}
+
+fn tenant_argument<'a>(alloc: Global) -> Arg<'a>
+    ensures rule { rule_of result ≡ tenant_rule }
+    ensures local { result.global ≡ false }
+{
+    Arg::new(alloc, "tenant").value_name("TENANT").help(
+        "The tenant whose rows and states are printed [default: all]",
+    )
+}
+
 /// A command with no argument yet.
 fn bare<'a>(alloc: Global, name: &'a str, about: &'a str) -> Command<'a>
     ensures { IsApp (new_app name.entry.now) result }
@@ -217,6 +236,14 @@ fn migrate_command<'a>(alloc: Global) -> Result<Command<'a>, AllocError>
     bare(alloc, "migrate", about).arg(path_argument(alloc))
 }
 
+fn rows_command<'a>(alloc: Global) -> Result<Command<'a>, AllocError>
+    ensures { IfOk result (λ c. IsApp rows_app c) }
+{
+    let about = "Prints the rows and the active states of a folder's last checkpoint";
+    let command = with_arg(Ok(bare(alloc, "rows", about)), folder_argument(alloc));
+    with_arg(command, tenant_argument(alloc))
+}
+
 /// The command line with no subcommand yet.
 fn bare_silo<'a>(alloc: Global) -> Result<Command<'a>, AllocError>
     ensures { IfOk result (λ c. IsApp bare_app c) }
@@ -264,5 +291,6 @@ pub fn silo_command<'a>(alloc: Global) -> Result<Command<'a>, AllocError>
     let command = with_command(command, answer_command(alloc));
     let command = with_command(command, serve_command(alloc));
     let command = with_command(command, audit_command(alloc));
-    with_command(command, migrate_command(alloc))
+    let command = with_command(command, migrate_command(alloc));
+    with_command(command, rows_command(alloc))
 }

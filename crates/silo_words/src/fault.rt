@@ -26,7 +26,7 @@ pub const STEPS_EXAMPLE: &str = concat!(
 pub const SILO_EXAMPLE: &str = concat!(
     "\nExit status: 0 if all is well; 1 if a stream, a file, memory or the threads failed,\n",
     "or there are too many lines; 2 if the words are refused; 3 if an audit finds that a\n",
-    "tenant differs; 4 if the file has no journal.\n",
+    "tenant differs; 4 if the file has no journal, or the data are refused.\n",
     "\nExample: a counter is asked to add 3, and answers.\n",
     r#"  echo '{"op":"call","from":"red/c1","id":1,"grain":"counter/red:a","method":"add","args":{"by":3}}' |"#,
     "\n  silo answer red:2:4\n"
@@ -67,6 +67,17 @@ pub const MIGRATE_EXAMPLE: &str = concat!(
     "\nExample: a counter is asked to add 3, and the journal of that is migrated.\n",
     r#"  echo '{"op":"call","from":"red/c1","id":1,"grain":"counter/red:a","method":"add","args":{"by":3}}'"#,
     " |\n  silo answer --journal day red:2:4 && silo migrate day\n"
+);
+
+/// What stands at the end of help on `rows`.
+pub const ROWS_EXAMPLE: &str = concat!(
+    "\nWhat was answered since the last checkpoint isn't printed. DIR isn't changed, and a\n",
+    "process may have it.\n",
+    "\nExit status: 0 if all was printed; 1 if there is no checkpoint, or it can't be read, or\n",
+    "the output or memory failed; 2 if the words are refused; 4 if the checkpoint is refused.\n",
+    "\nExample: a counter is asked to add 3, and its state is printed.\n",
+    r#"  echo '{"op":"call","from":"red/c1","id":1,"grain":"counter/red:a","method":"add","args":{"by":3}}'"#,
+    " |\n  silo answer --data kept red:2:4 && silo rows kept red\n"
 );
 
 /// Why the words make no task.
@@ -130,6 +141,9 @@ fn example_of(name: &str) -> &'static str
     }
     if is_same(name, "migrate") {
         return MIGRATE_EXAMPLE;
+    }
+    if is_same(name, "rows") {
+        return ROWS_EXAMPLE;
     }
     SILO_EXAMPLE
 }

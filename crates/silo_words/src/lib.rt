@@ -20,8 +20,8 @@ mod tenants;
 
 pub use ages::{AgesFault, read_ages};
 pub use fault::{
-    ANSWER_EXAMPLE, AUDIT_EXAMPLE, MIGRATE_EXAMPLE, SERVE_EXAMPLE, SILO_EXAMPLE, STEPS_EXAMPLE,
-    WordsFault,
+    ANSWER_EXAMPLE, AUDIT_EXAMPLE, MIGRATE_EXAMPLE, ROWS_EXAMPLE, SERVE_EXAMPLE, SILO_EXAMPLE,
+    STEPS_EXAMPLE, WordsFault,
 };
 pub use laws::words_are_told_apart;
 pub use reading::read_words;

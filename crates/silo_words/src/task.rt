@@ -92,6 +92,12 @@ pub enum Task<'a> {
     Migrate {
         path: &'a str,
     },
+
+    /// Print what the checkpoint in the folder has: of the tenant, if one is named.
+    Rows {
+        folder: &'a str,
+        tenant: Option<&'a str>,
+    },
 }
 
 /// The number of an option, if what was found is one within its range, and the usual one if nothing was.
@@ -331,6 +337,17 @@ fn migrate_task<'a>(alloc: Global, found: &ArgMatches<'a>) -> Result<Task<'a>, W
     Ok(Task::Migrate { path })
 }
 
+fn rows_task<'a>(alloc: Global, found: &ArgMatches<'a>) -> Result<Task<'a>, WordsFault>
+    ensures task { IfOk result (λ task. IsTaskOf (codes "rows") (rows_of (found_of found.now)) task) }
+    ensures fault { IfErr result (λ fault. IsNoTaskFor (codes "rows") (rows_of (found_of found.now)) fault) }
+{
+    let Some(folder) = text_of(found, "folder") else {
+        return Err(no_task(alloc));
+    };
+    let tenant = text_of(found, "tenant");
+    Ok(Task::Rows { folder, tenant })
+}
+
 /// The task of a subcommand, by its name and what was found of it.
 pub fn task_of<'a>(
     alloc: Global,
@@ -346,6 +363,7 @@ pub fn task_of<'a>(
         "serve" => serve_task(alloc, found),
         "audit" => audit_task(alloc, found),
         "migrate" => migrate_task(alloc, found),
+        "rows" => rows_task(alloc, found),
         _ => Err(no_task(alloc)),
     }
 }

@@ -9,7 +9,7 @@ use Rattle.journal_text.specs.Text.{History}
 use Rattle.journal_text.specs.declared.fault.JournalFault.TheVariants as faults
 use Rattle.journal_text.proofs.Named.{names_own}
 use Rattle.journal_text.proofs.OneText.{one_text_of}
-use Rattle.logic_versions.specs.Versions.{IsVersion}
+use Rattle.grain_kinds.specs.Versions.{IsVersion}
 use Rattle.audit_model.specs.Parts.{replies_for, rows_for, setup_of, steps_for}
 use Rattle.audit_model.specs.Report.{IsFirstDifference, IsTenantReport, TenantReport}
 use Rattle.audit_model.proofs.Differences.{one_difference}

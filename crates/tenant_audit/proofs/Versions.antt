@@ -1,10 +1,8 @@
 -- The versions of the logic that journals name, and those that there are.
-use Rattle.std.proofs.Common.{◌≡◌, ◌≤◌, ◌∷◌, ◌++◌, ◌∙◌, ℕ, Err, List, Ok, Result, [], arith, inl, inr, subst, sym}
+use Rattle.std.proofs.Common.{◌≡◌, ◌∷◌, ◌++◌, ◌∙◌, ℕ, Err, List, Ok, Result, [], arith, inl, inr, subst, sym}
 use Rattle.std.proofs.lemmas.Bool.{cases_lt}
 use Rattle.std.proofs.lemmas.List.Elements.{All-cons, All-nil}
-use Rattle.logic_versions.specs.Versions.{IsVersion, newest}
-use Rattle.grain_kinds.specs.Kinds.{logic_of, newest_kinds}
-use Rattle.grain_kinds.proofs.Newer.{newer_is_newest}
+use Rattle.grain_kinds.specs.Versions.{IsVersion, newest}
 use Rattle.journal_text.specs.declared.fault.JournalFault.{JournalFault}
 use Rattle.journal_text.specs.declared.fault.JournalFault.TheVariants as faults
 use Rattle.journal_text.specs.declared.form.Form.{Form}
@@ -50,10 +48,3 @@ known_read bytes (Ok j) older reads = (
 )
 known_read bytes (Err (faults.At number)) older reads = inr (older, reads)
 known_read bytes (Err faults.Memory) older reads = tt
-
--- a version that isn't the first has the newest one's logic
-pub later_logic : (kinds : ℕ) → 1 ≤ kinds → (kinds ≡ 1 → ⊥) → newest_kinds ≡ logic_of kinds
-later_logic kinds is other = sym (newer_is_newest kinds (elim (cases_lt kinds 2) [
-  | inl one ↦ absurd (other (omega (arith, is, one)))
-  | inr later ↦ later
-]))

@@ -3,7 +3,7 @@ use Rattle.std.specs.Prelude.{◌≡◌, ℕ, List, All, None, Result, Ok, Err}
 use Rattle.grain_logic.specs.Logic.{Logic}
 use Rattle.journal_text.specs.JournalAnswers.{IsJournalText}
 use Rattle.journal_text.specs.Text.{History}
-use Rattle.logic_versions.specs.Versions.{IsVersion}
+use Rattle.grain_kinds.specs.Versions.{IsVersion}
 use Rattle.journal_text.specs.declared.fault.JournalFault.{JournalFault}
 use Rattle.journal_text.specs.declared.fault.JournalFault.TheVariants as faults
 use Rattle.audit_model.specs.Report.{IsFirstDifference, IsReport, TenantReport}

@@ -1,7 +1,7 @@
 -- Journals of the versions of the logic that there are, read.
 use Rattle.std.specs.Prelude.{◌≡◌, ◌<◌, ◌⊎◌, ℕ, List, Result, Ok, Err, Vec}
 use Rattle.std.specs.declared.alloc.Global.{Global}
-use Rattle.logic_versions.specs.Versions.{IsVersion, newest}
+use Rattle.grain_kinds.specs.Versions.{IsVersion, newest}
 use Rattle.journal_text.specs.declared.fault.JournalFault.{JournalFault}
 use Rattle.journal_text.specs.declared.fault.JournalFault.TheVariants as faults
 use Rattle.journal_text.specs.FirstFault.{IsFirstFault}

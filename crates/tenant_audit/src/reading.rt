@@ -3,8 +3,8 @@
 ghost use Rattle.std.specs.Prelude.{◌↔◌, IfOk, IsTrue};
 ghost use Rattle.tenant_audit.specs.Reading.{MigratesKnown, NamesNewer, ReadsKnown};
 
+use grain_kinds::newest;
 use journal_text::{Journal, JournalFault, named_kinds};
-use logic_versions::newest;
 use std::alloc::{AllocError, Global};
 
 /// The line of a journal that names the version of its logic.

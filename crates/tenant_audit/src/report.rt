@@ -9,10 +9,10 @@ use crate::comparison::first_difference;
 use crate::difference::Difference;
 use crate::parted_journal::PartedJournal;
 use grain_id::{HashSeed, Tenant};
-use grain_kinds::{Kinds, RestingKinds};
+use grain_kinds::{NamedKinds, NamedVersion};
 use grain_logic::GrainLogic;
 use std::alloc::{AllocError, Global};
-use std::marker::Model;
+use std::marker::{Brand, Model};
 
 /// What an audit says of one tenant: how many steps of the journal concern it, how many replies and rows
 /// of it were recorded, and the first difference, if there is one.
@@ -72,11 +72,22 @@ pub fn report_as_named(
     ensures report { IfOk result (λ report. IsTenantReport (logic_of journal.now.kinds) journal.now (tenant_report_of report)) }
     ensures tenant { IfOk result (λ report. report.tenant ≡ tenant) }
 {
-    if journal.journal().kinds() == 1 {
-        report_on(alloc, seed, journal, tenant, Kinds)
-    } else {
-        report_on(alloc, seed, journal, tenant, RestingKinds)
-    }
+    report_at::<Brand>(alloc, seed, journal, tenant)
+}
+
+/// What is reported of one tenant, under the version that the journal names.
+fn report_at<N: NamedVersion>(
+    alloc: Global,
+    seed: HashSeed,
+    journal: &PartedJournal<'_>,
+    tenant: Tenant,
+) -> Result<TenantReport, AllocError>
+    requires { journal.now.kinds ≡ N.version }
+    ensures report { IfOk result (λ report. IsTenantReport (logic_of N.version) journal.now (tenant_report_of report)) }
+    ensures tenant { IfOk result (λ report. report.tenant ≡ tenant) }
+{
+    let version = NamedKinds::<N>::new(journal.journal().kinds());
+    report_on(alloc, seed, journal, tenant, version)
 }
 
 /// What is reported of one tenant. The maps of its machine hash from the seed.

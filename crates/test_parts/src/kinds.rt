@@ -4,11 +4,10 @@ use crate::compare::{are_bytes, same};
 use crate::rows::{Fields, Subject, hold, put, show, tell};
 use crate::values::{grain, message, read_state, spelled, state};
 use bumpalo::Bump;
-use grain_kinds::{Kinds, NewestKinds, RestingKinds, Version};
+use grain_kinds::{Kinds, NewestKinds, RestingKinds, Version, newest};
 use grain_logic::{
     FinishedTurn, GrainLogic, MethodFault, OpenedTurn, OwnedPlan, plan_turn, run_turn,
 };
-use logic_versions::newest;
 use request_codec::{Message, StateBytes, decode_state, to_json};
 use std::alloc::{AllocError, Global};
 use std::test::Fail;
@@ -397,7 +396,7 @@ impl Subject for Known {
 }
 
 #[test]
-fn three_kinds_are_known(rt: HostRuntime) -> Result<(), Fail> {
+fn kinds_are_known(rt: HostRuntime) -> Result<(), Fail> {
     hold(rt.alloc(), &mut Known, KINDS)
 }
 

@@ -1,7 +1,7 @@
 //! The journal that is kept, audited and migrated: statuses, texts, and what stands in the file.
 
 use crate::runs::{file_of, left_by};
-use logic_versions::newest;
+use grain_kinds::newest;
 use silo_program::MemoryFile;
 use std::alloc::Global;
 use std::random::RandomSource;

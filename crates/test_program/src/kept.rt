@@ -174,8 +174,27 @@ fn a_run_goes_on_where_the_last_ended(rt: HostRuntime) -> Result<(), Fail> {
 }
 
 #[test]
-fn other_words_are_refused(rt: HostRuntime) -> Result<(), Fail> {
-    let left = again(&rt, "silo answer --data d red:2:5", GET)?;
+fn other_words_begin_where_the_log_is_empty(rt: HostRuntime) -> Result<(), Fail> {
+    let left = again(&rt, "silo answer --data d --age 9 blue:1:1 red:2:5", GET)?;
+    assert!(rt; is_so(&left, 0, "{\"from\":\"red/c1\",\"id\":2,\"ok\":3}\n", ""));
+    Ok(())
+}
+
+#[test]
+fn a_tenant_that_has_something_is_not_left_out(rt: HostRuntime) -> Result<(), Fail> {
+    let left = again(&rt, "silo answer --data d blue:1:1", GET)?;
+    assert!(rt; is_so(&left, 2, "", "silo: the data have the tenant red\n"));
+    Ok(())
+}
+
+#[test]
+fn a_log_that_goes_on_from_nothing_has_its_words(rt: HostRuntime) -> Result<(), Fail> {
+    let mut folder = folder_of(rt.alloc(), None);
+    let left = left_by(&rt, "silo answer --data d red:2:4", "", &mut folder)?;
+    assert!(rt; is_so(&left, 0, "", ""));
+    let bytes = bytes_in(rt.alloc(), &folder)?;
+    let mut folder = folder_of(rt.alloc(), Some(bytes));
+    let left = left_by(&rt, "silo answer --data d red:2:5", GET, &mut folder)?;
     assert!(rt; is_so(&left, 2, "", "silo: the data have other words\n"));
     Ok(())
 }

@@ -14,6 +14,8 @@ mod journals;
 #[cfg(test)]
 mod kept;
 #[cfg(test)]
+mod rows;
+#[cfg(test)]
 mod runs;
 #[cfg(test)]
 mod told;

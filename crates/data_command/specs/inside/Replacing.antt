@@ -10,7 +10,7 @@ use Rattle.log_text.specs.Sums.{spelled}
 use Rattle.log_host.specs.Acts.{Act}
 use Rattle.silo_checkpoint.specs.Saved.{HasText, saved_by, sum_in}
 use Rattle.command_parts.specs.Setups.{Start, Version}
-use Rattle.data_command.specs.Data.{IsReplaced, IsTold, LogClaims, LogView, StandsAt, led_by, place_of, since}
+use Rattle.data_command.specs.Data.{IsReplaced, IsTold, LogClaims, LogView, NothingFollows, StandsAt, led_by, place_of, since}
 use Rattle.data_command.specs.Words.{head_words}
 use Rattle.data_command.specs.declared.starting.StartedLog.{StartedLog}
 
@@ -37,12 +37,6 @@ pub record IsNext (start : Start) (sends : ℕ) (log : LogClaims) (number bytes 
   pub setup : is.next ≡ next
   pub number_is : begun.number ≡ spelled (sum_in is.point)
   pub place_is : begun.place ≡ place_of (head_words start sends) begun.number
-
--- No checkpoint can follow a log of that number: none says this setup, or the log that would go on from it has the same number.
-abbrev pub NothingFollows : Version → ℕ → List ℕ → Setup → Type 0
-NothingFollows version sends number setup =
-    ((text : List ℕ) → HasText text (saved_by number version.number sends setup) → ⊥)
-    ⊎ ((text : List ℕ) × HasText text (saved_by number version.number sends setup) × (spelled (sum_in text) ≡ number))
 
 -- A log goes on only if it has no lines, or if no checkpoint can follow it: then whatever it gets.
 abbrev pub MayStay : Version → ℕ → Setup → StartedLog → StartedLog → Type 0

@@ -1,8 +1,9 @@
 -- What a start of a log comes to, and its parts.
-use Rattle.std.specs.Prelude.{◌≡◌, ◌++◌, ℕ, ◌+◌, Bool, List, [], Option, Some}
+use Rattle.std.specs.Prelude.{◌≡◌, ◌++◌, ℕ, ◌+◌, Bool, false, List, [], Option, Some}
 use Rattle.silo_model.specs.Opening.{opening}
 use Rattle.silo_core.specs.History.{History}
 use Rattle.log_text.specs.Head.{first_sum, head_text, name_of}
+use Rattle.log_host.specs.Lasting.{lines_in}
 use Rattle.log_host.specs.Laws.{restarted}
 use Rattle.log_answer.specs.Answers.{HasLeft}
 use Rattle.log_answer.specs.Runs.{GoesOn}
@@ -29,12 +30,13 @@ pub record WasStarted (keeps : Bool) (start : Start) (sends : ℕ) (log : LogCla
   pub has : HasLeft keeps all silo
   pub starts : StartsFrom start sends found all
 
--- And the log goes on at its place. It has the batches that were found behind its head, and nothing behind them; nothing was done to it
--- since.
+-- And the log goes on at its place, and is said to have no lines only if there are none. It has the batches that were found behind its
+-- head, and nothing behind them; nothing was done to it since.
 pub record IsStarted (keeps : Bool) (start : Start) (sends : ℕ) (log : LogClaims) (begun : StartedLog) (silo : History) : Type 0 where
   pub was : WasStarted keeps start sends log silo
   pub number : was.starts.number ≡ begun.number
   pub named : begun.place.name ≡ name_of was.starts.number
+  pub none : begun.has_lines ≡ false → lines_in (data_log start sends was.starts.number) was.starts.bytes ≡ []
   pub goes_on : GoesOn start.version.logic sends (opening start.setup) (first_sum (head_words start sends) was.starts.number) begun.place
       (restarted (data_log start sends was.starts.number) was.starts.bytes) silo.whole
   pub fresh : log.old.acts ≡ Some [] → log.new.acts ≡ Some []

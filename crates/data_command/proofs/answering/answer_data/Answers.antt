@@ -78,4 +78,4 @@ returns-clause-lasts g c synced known =
     let view = log_view g.F.LogHost.begun g.F.LogHost.acts g.F.LogHost.past g.F.LogHost.failed in
     let ready = c.in-Ok-ready_silo.ensures.ready (view c.args.files.now) (found_so c.open_folder.ensures.left c.open_folder.ensures.acts c.in-Ok.ensures.log c.in-Ok.ensures.point) in
     let opens = c.in-Ok-ready_silo.ensures.opens (view c.args.files.now) (found_so c.open_folder.ensures.left c.open_folder.ensures.acts c.in-Ok.ensures.log c.in-Ok.ensures.point) in
-    inr (at_ready ready opens (λ own n now. RunLasts own n (since now (view c.answer_on-done.new.files))) (c.answer_on-done.ensures.lasts synced))
+    inr (inl (at_ready ready opens (λ own n now. RunLasts own n (since now (view c.answer_on-done.new.files))) (c.answer_on-done.ensures.lasts synced)))

@@ -12,7 +12,9 @@ use Rattle.data_command.specs.Data.{log_view}
 use Rattle.data_command.specs.Folder.{OpensAt}
 use Rattle.data_command.specs.Words.{head_words}
 use Rattle.data_command.specs.inside.Ready.{HasNumber, IsWrongLog, SaysWords}
-use Rattle.data_command.proofs.Beginnings.{found_now, if_ok_is, lacks_log, lasts_old, on_err_so, opens_old, opens_own, says_same, says_nothing, says_others, says_too_much, wrong_log}
+use Rattle.data_command.proofs.Beginnings.{found_now, if_ok_is, lacks_log, lasts_old, on_err_so, opens_old, opens_own, says_same, says_nothing, says_too_much, wrong_log}
+use Rattle.std.proofs.lemmas.Result.{IfOk-weaker}
+use Rattle.data_command.proofs.Rewordings.{read_other}
 use Rattle.data_command.proofs.ready.saved_ready.Goals as goal
 
 pub returns-in-Err-NoCheckpoint-clause-fault : goal.returns-in-Err-NoCheckpoint-clause-fault
@@ -24,16 +26,23 @@ returns-in-Err-NoCheckpoint-clause-fault g c old f =
     let point = c.args.point.now in
     says_nothing start sends old now log point f (rw c.in-Err-NoCheckpoint.field-0-is at c.in-Err-NoCheckpoint.ensures.read)
 
-pub returns-then-not-branch-clause-fault : goal.returns-then-not-branch-clause-fault
-returns-then-not-branch-clause-fault g c old f =
+pub returns-then-not-branch-clause-ready : goal.returns-then-not-branch-clause-ready
+returns-then-not-branch-clause-ready g c =
     let start = (starting (version_of g.L.GrainLogic.logic c.args.opening.start.kinds) c.args.opening.start.tenants c.args.opening.start.age c.args.opening.start.ages) in
     let sends = c.args.opening.sends in
     let now = log_view g.F.LogHost.begun g.F.LogHost.acts g.F.LogHost.past g.F.LogHost.failed c.args.files.now in
     let log = option_map (λ (bytes : Vec ℕ Global). bytes.items) c.args.log in
-    let point = c.args.point.now in
-    let saved = saved_in c.in-Ok.saved in
-    says_others start sends old now log point f saved c.in-Ok.ensures.read c.as_slice.result.now (c.as_slice.ensures.value ∙ c.requires)
-    (λ same. true≢false (sym (c.in_ok-says_words.ensures.1 same) ∙ c.if-not-branch.true))
+    IfOk-weaker c.reworded_ready.result _ _ (λ r so old f. so old (read_other start sends old now c.sum_of-number.result log (saved_in c.in-Ok.saved) c.args.point.now f c.in-Ok.ensures.read
+    c.sum_of-number.ensures c.as_slice.result.now (c.as_slice.ensures.value ∙ c.requires) (λ same. true≢false (sym (c.in_ok-says_words.ensures.1 same) ∙ c.if-not-branch.true)))) c.reworded_ready.ensures.ready
+
+pub returns-then-not-branch-clause-opens : goal.returns-then-not-branch-clause-opens
+returns-then-not-branch-clause-opens g c =
+    let start = (starting (version_of g.L.GrainLogic.logic c.args.opening.start.kinds) c.args.opening.start.tenants c.args.opening.start.age c.args.opening.start.ages) in
+    let sends = c.args.opening.sends in
+    let now = log_view g.F.LogHost.begun g.F.LogHost.acts g.F.LogHost.past g.F.LogHost.failed c.args.files.now in
+    let log = option_map (λ (bytes : Vec ℕ Global). bytes.items) c.args.log in
+    IfOk-weaker c.reworded_ready.result _ _ (λ r so old f. so old (read_other start sends old now c.sum_of-number.result log (saved_in c.in-Ok.saved) c.args.point.now f c.in-Ok.ensures.read
+    c.sum_of-number.ensures c.as_slice.result.now (c.as_slice.ensures.value ∙ c.requires) (λ same. true≢false (sym (c.in_ok-says_words.ensures.1 same) ∙ c.if-not-branch.true)))) c.reworded_ready.ensures.opens
 
 pub returns-in_default-clause-fault : goal.returns-in_default-clause-fault
 returns-in_default-clause-fault g c old f =

@@ -3,8 +3,7 @@ use Rattle.log_text.specs.Head.{head_text}
 use Rattle.log_text.specs.Sums.{after, spelled}
 use Rattle.silo_checkpoint.specs.Saved.{sum_in}
 use Rattle.command_parts.specs.Setups.{version_of}
-use Rattle.data_command.specs.Data.{place_of}
-use Rattle.data_command.specs.inside.Replacing.{NothingFollows}
+use Rattle.data_command.specs.Data.{NothingFollows, place_of}
 use Rattle.data_command.proofs.Replaced.{at_opening, next_is, reopened_so, switched, switched_or_not}
 use Rattle.data_command.proofs.Starts.{placed}
 use Rattle.data_command.proofs.replacing.replace_log.Goals as goal

@@ -79,7 +79,7 @@ returns-clause-started g c =
     let cut : before.begun ≡ Some (head_text words number ++ behind) → Cuts before.acts before.begun after_it.acts after_it.begun (length (take (length c.args.bytes.now - length behind) c.args.bytes.now) + c.in-Ok.again.length) =
     λ is. on_ok c.cut_end.result _ (sym c.is_err.ensures.value ∙ c.if-is_err.false) (c.cut_end.ensures.ok (is ∙ ap Some (sym text))) in
     started_again start sends before number behind cuts.0 there c.args.silo.now.keeps after_it c.args.silo.now.history c.answer_again.new.silo.history c.in-Ok.again c.behind_head-place.result _ refl c.requires.opened place
-    refl c.digits_of.ensures c.in-Ok.ensures.answered
+    refl c.digits_of.ensures (λ no. grind (arith, no)) c.in-Ok.ensures.answered
     (cut_fresh start sends before number behind cuts.0 there after_it _ cut)
     (cut_kept start sends before number behind cuts.0 there after_it _ long cut) c.cut_end.ensures.past
 

@@ -11,7 +11,8 @@ returns c =
     let answering = c.with_command-command-2.ensures _ _ stepping c.answer_command.ensures in
     let serving = c.with_command-command-3.ensures _ _ answering c.serve_command.ensures in
     let auditing = c.with_command-command-4.ensures _ _ serving c.audit_command.ensures in
-    let whole = c.with_command.ensures _ _ auditing c.migrate_command.ensures in
+    let migrating = c.with_command-command-5.ensures _ _ auditing c.migrate_command.ensures in
+    let whole = c.with_command.ensures _ _ migrating c.rows_command.ensures in
     record {
       app = IfOk-weaker _ (IsApp silo_app) _ (λ _ made. made.same) whole;
       local = IfOk-weaker _ (IsApp silo_app) _ (λ _ made. made.local) whole;

@@ -1,6 +1,6 @@
 use Rattle.std.proofs.Common.{◌≡◌, List, None, Some, true, refl, subst, inl, inr, rules, arith, codes}
 use Rattle.clap.specs.Words.{Row, Text, first_of}
-use Rattle.clap.specs.declared.error.kind.ErrorKind.TheVariants.{ArgumentConflict}
+use Rattle.clap.specs.declared.error.kind.ErrorKind.TheVariants.{ArgumentConflict, UnknownArgument}
 use Rattle.clap.specs.declared.error.kind.ErrorKind.TheVariants.{MissingSubcommand, MissingRequiredArgument, ValueValidation}
 use Rattle.clap.proofs.OnLiterals.{clap_on_literals}
 use Rattle.silo_words.specs.Words.{FindAnswering, FindData, IsAge, IsNumber, IsPlain, IsWorkers, MakesNoTask, is_unsynced}
@@ -28,6 +28,7 @@ not_plain rows text written never = record {
   serving = λ workers age ages journal telling tenants found. absurd (cc (found.command));
   audit = λ path found. absurd (cc (found.command));
   migration = λ path found. absurd (cc (found.command));
+  listing = λ folder tenant found. absurd (cc (found.command));
 }
 
 -- a flag of a folder without the folder makes no task, nor a folder with a journal
@@ -41,6 +42,7 @@ no_folder rows none unsynced = record {
   serving = λ workers age ages journal telling tenants found. absurd (cc (found.command));
   audit = λ path found. absurd (cc (found.command));
   migration = λ path found. absurd (cc (found.command));
+  listing = λ folder tenant found. absurd (cc (found.command));
 }
 
 both : (rows : List Row) (folder path : Text) → first_of (codes "data") rows ≡ Some folder → first_of (codes "journal") rows ≡ Some path
@@ -54,6 +56,7 @@ both rows folder path given kept = record {
   serving = λ workers age ages journal telling tenants found. absurd (cc (found.command));
   audit = λ path found. absurd (cc (found.command));
   migration = λ path found. absurd (cc (found.command));
+  listing = λ folder tenant found. absurd (cc (found.command));
 }
 
 signed : IsPlain (Some (codes "+5")) → ⊥
@@ -158,11 +161,14 @@ returns c = record {
   };
   audit = record { taken = refl; name = codes "audit"; rows = _; is = refl; found = record { command = refl; given = refl } };
   migration = record { taken = refl; name = codes "migrate"; rows = _; is = refl; found = record { command = refl; given = refl } };
+  listing = record { taken = refl; name = codes "rows"; rows = _; is = refl; found = record { command = refl; given = refl; chosen = refl } };
+  listing_one = record { taken = refl; name = codes "rows"; rows = _; is = refl; found = record { command = refl; given = refl; chosen = refl } };
   help = inl refl;
   help_of_steps = inl refl;
   help_of_answer = inl refl;
   help_of_serve = inl refl;
   help_of_migrate = inl refl;
+  help_of_rows = inl refl;
   version = inl refl;
   nothing = (MissingSubcommand, (λ e. absurd cc), (λ e. absurd cc), inl refl);
   no_age = (ValueValidation, (λ e. absurd cc), (λ e. absurd cc), inl refl);
@@ -181,4 +187,6 @@ returns c = record {
   no_tenant_to_serve = (MissingRequiredArgument, (λ e. absurd cc), (λ e. absurd cc), inl refl);
   no_path = (MissingRequiredArgument, (λ e. absurd cc), (λ e. absurd cc), inl refl);
   no_path_to_migrate = (MissingRequiredArgument, (λ e. absurd cc), (λ e. absurd cc), inl refl);
+  no_folder_to_list = (MissingRequiredArgument, (λ e. absurd cc), (λ e. absurd cc), inl refl);
+  two_tenants_to_list = (UnknownArgument, (λ e. absurd cc), (λ e. absurd cc), inl refl);
 }

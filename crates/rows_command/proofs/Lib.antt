@@ -1,0 +1,4 @@
+pub mod States
+pub mod Puts
+pub mod Points
+pub mod Prints

@@ -1,0 +1,4 @@
+pub mod Listing
+pub mod Rows
+pub mod Laws
+pub mod inside
