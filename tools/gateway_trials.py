@@ -14,7 +14,7 @@ from typing import Any, Callable, Dict, List
 from gateway_floods import HEAD, WAYS, Flooded, flooded
 from gateway_fuzz import Fuzz
 from gateway_kills import Arena
-from tests.gateways import Gateway, echo
+from tests.gateways import Gateway, Room, echo
 from tests.test_gateway_faults import Steady
 
 # connections at once, and bytes that the gateway may have in memory, whatever is tried
@@ -115,7 +115,7 @@ def nothing_is_left(gateway: Gateway) -> bool:
 
 
 def kills(trial: Trial) -> None:
-    with tempfile.TemporaryDirectory() as room:
+    with Room() as room:
         arena = Arena(pathlib.Path(room), random.Random(f"kills {trial.words.seed}"))
         begun = time.monotonic()
         try:

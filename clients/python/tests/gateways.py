@@ -45,11 +45,23 @@ def soon(is_so: Callable[[], object]) -> None:
         time.sleep(0.01)
 
 
+class Room(tempfile.TemporaryDirectory[str]):
+    """A folder that goes at the end, also if what was killed, or what that had run, still writes there for a moment."""
+
+    def cleanup(self) -> None:
+        soon(self._is_gone)
+        super().cleanup()
+
+    def _is_gone(self) -> bool:
+        shutil.rmtree(self.name, ignore_errors=True)
+        return not os.path.exists(self.name)
+
+
 class Gateway:
     """A gateway that runs as a process. It listens in `folder` once it was made."""
 
     def __init__(self, *words: str, program: Optional[str] = None, tenants: Any = TENANTS, further: Any = (), folder: Any = None) -> None:
-        self._room = tempfile.TemporaryDirectory()
+        self._room = Room()
         self.folder = folder or pathlib.Path(self._room.name, "sockets")
         self._told = open(pathlib.Path(self._room.name, "told"), "wb")
         command = [sys.executable, "-W", "error", "-m", "silo.gateway", "--program", program or beside.program, "--grace", f"{SECONDS:g}", *words]
@@ -98,10 +110,6 @@ class Gateway:
             self.process.send_signal(number)
         return self.process.wait(2 * SECONDS)
 
-    def _is_room_gone(self) -> bool:
-        shutil.rmtree(self._room.name, ignore_errors=True)
-        return not os.path.exists(self._room.name)
-
     def close(self) -> None:
         if self._told.closed:
             return
@@ -110,8 +118,6 @@ class Gateway:
         self.process.wait()
         told = self.told()
         self._told.close()
-        # what a killed gateway ran may still write there for a moment
-        soon(self._is_room_gone)
         self._room.cleanup()
         # whatever it tells is a line with a time and a level
         odd = [line for line in told.splitlines() if not TOLD_LINE.match(line)]

@@ -21,7 +21,7 @@ from silo.gateway.options import read_options
 
 from . import beside
 from .beside import CLIENT, settled
-from .gateways import Gateway, Gateways, Wire, call, echo, echoed, soon
+from .gateways import Gateway, Gateways, Room, Wire, call, echo, echoed, soon
 
 FENCE_TOLD = {"error": 10, "text": "line is not a request"}
 
@@ -218,7 +218,7 @@ class Periods(Gateways):
         self.assertEqual(gateway.figure("silo_ticks_total"), 0)
 
     def test_figures_of_the_data(self) -> None:
-        with tempfile.TemporaryDirectory() as folder:
+        with Room() as folder:
             pathlib.Path(folder, "log").write_bytes(b"12345")
             gateway = self.gateway("--data", folder, program=self.stub("while read(): pass"))
             self.assertEqual(gateway.figure('silo_data_bytes{file="log"}'), 5)
@@ -343,7 +343,7 @@ class Ends(Gateways):
             self.assertEqual(found.exception.code, 2)
 
     def test_by_a_log_that_is_refused(self) -> None:
-        with tempfile.TemporaryDirectory() as folder:
+        with Room() as folder:
             pathlib.Path(folder, "log").write_bytes(b"what")
             gateway = Gateway("--data", folder)
             self.addCleanup(gateway.close)

@@ -18,7 +18,7 @@ from typing import Any, List, Tuple
 from silo import Counter, Silo, SiloEnded, SiloError, SiloTimeout, aio
 
 from .beside import CLIENT, COUNTER, ROOT, SECONDS, WEB, settled
-from .gateways import Gateway, Gateways, soon
+from .gateways import Gateway, Gateways, Room, soon
 from .test_aio import Loop
 
 TOKEN = "a token of red's own"
@@ -143,7 +143,7 @@ class Ends(Gateways):
         self.assertEqual(silo.call(WEB, COUNTER, "get"), 0)
 
     def test_of_a_program_with_data_that_is_killed(self) -> None:
-        with tempfile.TemporaryDirectory() as folder:
+        with Room() as folder:
             gateway = self.gateway("--data", f"{folder}/data")
             silo = Silo.connect(gateway.address(), timeout=SECONDS)
             self.addCleanup(silo.close)

@@ -10,7 +10,6 @@ import random
 import shutil
 import signal
 import statistics
-import tempfile
 import threading
 import time
 import unittest
@@ -22,7 +21,7 @@ from silo.gateway.keeper import Keeper
 from silo.gateway.lane import MOST_AT_FIRST, Lane
 
 from .beside import SECONDS, Case, settled
-from .gateways import Gateway, Gateways, Wire, call, echo, echoed, soon
+from .gateways import Gateway, Gateways, Room, Wire, call, echo, echoed, soon
 from .test_gateway_lines import Kept
 
 # how many connections are tried that do what they shouldn't, and how many of them at once
@@ -356,7 +355,7 @@ class Programs(Case, unittest.IsolatedAsyncioTestCase):
 class Kills(Gateways):
     def test_of_a_program_with_data(self) -> None:
         """What was told is there again, and what wasn't told may be."""
-        with tempfile.TemporaryDirectory() as folder:
+        with Room() as folder:
             gateway = self.gateway("--data", f"{folder}/data")
             wire, told, unknown = self.wire(gateway), 0, 0
             for turn in range(3):

@@ -7,11 +7,10 @@ import re
 import socket
 import subprocess
 import sys
-import tempfile
 from typing import IO, List
 
 from .beside import CLIENT, ROOT, SECONDS
-from .gateways import Gateway, Gateways
+from .gateways import Gateway, Gateways, Room
 
 FOLDER = ROOT / "examples" / "services"
 
@@ -82,7 +81,7 @@ class Chat(Gateways):
         self.assertEqual(len(rows), 4)
 
     def test_the_program_may_end(self) -> None:
-        with tempfile.TemporaryDirectory() as folder:
+        with Room() as folder:
             gateway = self.gateway("--data", f"{folder}/data", tenants=["chat:10000:4"])
             service = self.service(gateway)
             ann, bob = self.user(service, "ann"), self.user(service, "bob")
