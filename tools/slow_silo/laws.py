@@ -1,6 +1,6 @@
 """What is promised of every list of steps, looked at after each step of a run of the slow silo.
 
-That a tenant's part is its own machine's run is looked at elsewhere: by `audit`, and by tools/tenants-apart.
+That a tenant's part is its own machine's run is looked at elsewhere: by `audit`, and by gate/tenants-apart.
 """
 
 from __future__ import annotations

@@ -1,1 +1,1 @@
-"""Tests of the client, which `tools/check-client` runs beside a program."""
+"""Tests of the client, which `gate/check-client` runs beside a program."""

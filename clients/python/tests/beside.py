@@ -1,4 +1,4 @@
-"""What the client is tried beside: the program of `tools/check-client`, or one that does what no silo does."""
+"""What the client is tried beside: the program of `gate/check-client`, or one that does what no silo does."""
 
 from __future__ import annotations
 
@@ -19,7 +19,7 @@ WEB = "red/web"
 COUNTER = "counter/red:a"
 # how long a test waits for what has to come: only one that fails waits so long, and a machine may be busy
 SECONDS = 60.0
-# the path of the program, which `tools/check-client` sets
+# the path of the program, which `gate/check-client` sets
 program = ""
 
 

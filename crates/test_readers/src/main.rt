@@ -1,7 +1,7 @@
 //! Reads lines by one of the two readers of `line_parser`, and prints what each line says.
 //!
 //! Both readers have one contract, so that this shows nothing of it. It shows whether both succeed, and
-//! what a proof leaves out: memory that is refused. `tools/compare-readers` runs it.
+//! what a proof leaves out: memory that is refused. `gate/compare-readers` runs it.
 #![tactic(auto)]
 
 ghost use Rattle.std.specs.Prelude.{◌≡◌, IfOk};

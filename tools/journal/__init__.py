@@ -1,0 +1,1 @@
+"""What `tell-journal`, `draw-journal`, `strike-journal` and `journal-page` share. `files` reads a journal, `redone` takes its steps again."""
