@@ -12,7 +12,7 @@ import re
 import sys
 from typing import List, Optional
 
-from silo import SiloEnded, SiloError, SiloTimeout, aio
+from silo import SiloEnded, SiloError, SiloTimeout, Value, aio
 
 NAME = re.compile(r"[A-Za-z0-9._-]{1,40}")
 HELP = "join ROOM, say ROOM TEXT, read ROOM, unread"
@@ -45,10 +45,16 @@ class Count(aio.Counter):
     prefix = "count/"
 
 
-class Unread(aio.Counter):
-    """How many lines of a room one user hasn't read."""
+class Unread(aio.Sheet):
+    """Which lines of a room one user hasn't read, by their numbers."""
 
     prefix = "unread/"
+
+
+async def keep(sheet: aio.Sheet, number: int, value: Value) -> None:
+    """Puts something of a line there, and drops that of the line that is too old."""
+    await asyncio.gather(sheet.put(f"{number:09}", value), sheet.drop(f"{number - MOST_LINES:09}"))
+    await sheet.save()
 
 
 class Chat:
@@ -75,39 +81,26 @@ class Chat:
     async def say(self, room: str, user: str, text: str) -> str:
         count, lines = Count(self._web, room), Lines(self._web, room)
         number = await count.add(by=1)
-        await lines.put(f"{number:09}", {"by": user, "text": text})
-        await lines.drop(f"{number - MOST_LINES:09}")
-        await asyncio.gather(count.save(), lines.save())
+        await keep(lines, number, {"by": user, "text": text})
+        await count.save()
         members = await Members(self._web, room).list()
-        await asyncio.gather(*(self._count_unread(room, member) for member in members if member != user))
+        await asyncio.gather(*(keep(Unread(self._web, f"{room}/{member}"), number, True) for member in members if member != user))
         return f"{number}"
 
     async def read(self, room: str, user: str) -> str:
         """What others said since the user read last."""
         unread, lines = Unread(self._web, f"{room}/{user}"), Lines(self._web, room)
-        count = await unread.get()
-        said: List[str] = []
-        # from the last line on; the user's own aren't counted
-        for number in reversed(await lines.list() if count else []):
-            line = await lines.get(number)
-            if line and line["by"] != user:
-                said.insert(0, f"{line['by']}: {line['text']}")
-            if len(said) == count:
-                break
+        numbers = await unread.list()
+        said = await asyncio.gather(*(lines.get(number) for number in numbers))
         # what others say meanwhile stays unread
-        await unread.add(by=-count)
+        await asyncio.gather(*(unread.drop(number) for number in numbers))
         await unread.save()
-        return "\n".join(said)
+        return "\n".join(f"{line['by']}: {line['text']}" for line in said if line)
 
     async def unread(self, user: str) -> str:
         rooms = await Rooms(self._web, user).list()
-        counts = await asyncio.gather(*(Unread(self._web, f"{room}/{user}").get() for room in rooms))
-        return "\n".join(f"{room}: {count}" for room, count in zip(rooms, counts))
-
-    async def _count_unread(self, room: str, user: str) -> None:
-        unread = Unread(self._web, f"{room}/{user}")
-        await unread.add(by=1)
-        await unread.save()
+        numbers = await asyncio.gather(*(Unread(self._web, f"{room}/{user}").list() for room in rooms))
+        return "\n".join(f"{room}: {len(unread)}" for room, unread in zip(rooms, numbers))
 
     async def obey(self, user: str, words: List[str]) -> str:
         """What a line of a user is answered."""

@@ -9,6 +9,8 @@ import subprocess
 import sys
 from typing import IO, List
 
+from silo import Counter, Sheet, Silo
+
 from .beside import CLIENT, ROOT, SECONDS
 from .gateways import Gateway, Gateways, Room
 
@@ -79,6 +81,19 @@ class Chat(Gateways):
             self.assertEqual(self.told(users[0], ann[0]), [ann_told[1]])
             self.assertEqual(self.told(users[1], bob[0]), [bob_told[1]])
         self.assertEqual(len(rows), 4)
+
+    def test_a_line_that_was_not_said_to_the_end_hides_none(self) -> None:
+        gateway = self.gateway(tenants=["chat:10000:4"])
+        service = self.service(gateway)
+        ann, bob = self.user(service, "ann"), self.user(service, "bob")
+        self.assertEqual(self.told(bob, "join lobby"), ["bob is in lobby"])
+        self.assertEqual(self.told(ann, "say lobby one"), ["1"])
+        # a process that ended between two turns left this
+        with Silo.connect(gateway.address("chat")) as silo:
+            web = silo.client("chat/web")
+            Counter(web, "count/lobby").add(by=1)
+            Sheet(web, "lines/lobby").put("000000002", {"by": "ann", "text": "two"})
+        self.assertEqual(self.told(bob, "unread", "read lobby", "unread"), ["lobby: 1", "ann: one", "lobby: 0"])
 
     def test_the_program_may_end(self) -> None:
         with Room() as folder:
