@@ -14,6 +14,11 @@ class SiloError(Exception):
         self.text = text
 
 
+def reason_of(status: int, told: str) -> str:
+    """Why a process ended: what it wrote on standard error, if it did."""
+    return told.strip() or (f"signal {-status} ended it" if status < 0 else "it gave no reason")
+
+
 class SiloEnded(Exception):
     """The silo has ended: its status (-9 if it was killed by signal 9), and what it told.
 
@@ -22,7 +27,7 @@ class SiloEnded(Exception):
 
     def __init__(self, status: int, told: str, under_way: bool = False) -> None:
         known = "; whether the request was done is not known" if under_way else ""
-        super().__init__(f"the silo ended with status {status}: {told.strip() or 'it told nothing'}{known}")
+        super().__init__(f"the silo ended with status {status}: {reason_of(status, told)}{known}")
         self.status = status
         self.told = told
         self.under_way = under_way

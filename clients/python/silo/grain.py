@@ -43,7 +43,13 @@ class Grain(BoundGrain):
     def __getattr__(self, method: str) -> Callable[..., Any]:
         if method.startswith("_"):
             raise AttributeError(method)
-        return lambda **args: self._call(method, args or None)
+
+        def call(*unnamed: Value, **args: Value) -> Any:
+            if unnamed:
+                raise TypeError(f"{method} has arguments by name alone, such as add(by=3)")
+            return self._call(method, args or None)
+
+        return call
 
 
 class KindGrain(BoundGrain):

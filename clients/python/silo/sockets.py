@@ -114,8 +114,11 @@ def connected(address: str, tenant: Optional[str], token: Optional[str], seconds
             enter(carried, tenant, token)
         carried.settimeout(None)
         return carried
-    except BaseException:
+    except BaseException as fault:
         carried.close()
+        # the system doesn't say where nobody listens
+        if isinstance(fault, OSError) and fault.errno is not None:
+            fault.filename = address
         raise
 
 

@@ -93,7 +93,7 @@ class Threads(Shared):
         for address in ("tcp:here", "tcp:127.0.0.1:x", "unix:x"):
             with self.assertRaises(ValueError):
                 Silo.connect(address, tenant="red", token=TOKEN)
-        with self.assertRaises(OSError):
+        with self.assertRaisesRegex(FileNotFoundError, "'unix:/nowhere/red.sock'$"):
             Silo.connect("unix:/nowhere/red.sock")
 
     def test_two_silos_of_one_caller_from_many_threads(self) -> None:

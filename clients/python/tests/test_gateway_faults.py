@@ -389,7 +389,7 @@ class Kills(Gateways):
         self.assertEqual(gateway.figure("silo_starts_total"), 6)
         lost = sum(gateway.figure(f'silo_lost_total{{tenant="{name}"}}') for name in ("red", "blue"))
         self.assertEqual(lost, sum(it.lost for it in steady))
-        self.assertEqual(gateway.told().count("error: the program has ended with status -9"), 5)
+        self.assertEqual(gateway.told().count("error: the program has ended with status -9: signal 9 ended it"), 5)
         self.assertEqual(gateway.end(), 0)
 
     def test_of_the_program_while_many_lines_are_under_way(self) -> None:

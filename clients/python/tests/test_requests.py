@@ -21,6 +21,10 @@ class Requests(Red):
         counter = self.web.grain(COUNTER)
         self.assertEqual([counter.add(by=3), counter.add(by=4), counter.get()], [3, 7, 7])
 
+    def test_arguments_have_names(self) -> None:
+        with self.assertRaisesRegex(TypeError, "^add has arguments by name alone, such as add.by=3.$"):
+            self.web.grain(COUNTER).add(3)
+
     def test_each_code_of_a_call(self) -> None:
         self.refused(21, COUNTER, "get", caller="green/web")
         self.refused(22, "lamp/red:a", "get")

@@ -6,6 +6,7 @@ import asyncio
 import time
 from typing import Callable, List, Optional, Tuple
 
+from silo.errors import reason_of
 from silo.gateway.desk import Desk
 from silo.gateway.log import tell
 from silo.process import Process, read_less
@@ -108,7 +109,7 @@ class Keeper:
             status, told = await self._live()
             if self._is_ending:
                 return status
-            tell("error", f"the program has ended with status {status}: {' '.join(told.split()) or 'it told nothing'}")
+            tell("error", f"the program has ended with status {status}: {' '.join(reason_of(status, told).split())}")
             if status in (REFUSES_WORDS, REFUSES_LOG) and self.starts <= 1:
                 return status
             if time.monotonic() - begun >= SECONDS_OF_A_LIFE:
