@@ -21,16 +21,20 @@ from silo.batch import serve_file
 from silo.client import Client, Silo
 from silo.errors import SiloEnded, SiloError, SiloTimeout
 from silo.grain import Grain, KindGrain
+from silo.kept import ActiveGrain, Kept, Row, rows
 from silo.kinds import Counter, Relay, Sheet, StoredGrain
 from silo.values import Value
 
 __all__ = [
+    "ActiveGrain",
     "Answer",
     "Client",
     "Counter",
     "Grain",
+    "Kept",
     "KindGrain",
     "Relay",
+    "Row",
     "Sheet",
     "Silo",
     "SiloEnded",
@@ -38,5 +42,6 @@ __all__ = [
     "SiloTimeout",
     "StoredGrain",
     "Value",
+    "rows",
     "serve_file",
 ]
