@@ -210,13 +210,40 @@ class Turns(unittest.TestCase):
         self.desk.feed(b'{"error":40,"from":"relay/red:r","text":"x"}\n')
         self.assertEqual((self.written, [said.get("id") for said in red.heard]), (given, [1, None]))
         self.desk.feed(reply_to(given[1]))
-        self.assertEqual(self.written[3:], [call(2)[:-1], FENCE[:-1]])
+        # nor is it given while another's line is under way, whose reply might wait for it
+        self.assertEqual(self.written[3:], [])
         self.desk.feed(reply_to(given[2]))
+        self.assertEqual(self.written[3:], [call(2)[:-1], FENCE[:-1]])
         # what was sent is red's, and not of whoever is answered next
         self.assertEqual([lane.most_written for lane in (red.lane, blue.lane)], [1, 16])
         self.desk.lose()
         self.assertEqual(([said.get("error") for said in red.heard], len(blue.heard)), ([None, 40, 90], 1))
         self.assertEqual((self.desk.is_idle, red.lane.held, red.lane.written, red.lane.lost), (True, 0, 0, 1))
+
+    def test_dear_turns_begin_one_by_one(self) -> None:
+        red, blue, operator = (Kept(self.desk, self.lanes[name]) for name in ("red", "blue", ""))
+        for guest in (red, blue):
+            for _ in range(10):
+                guest.lane.weigh(1, 0.01, 1, time.monotonic())
+        red.take(call(1) + call(2))
+        blue.take(call(3, "blue/web") + call(4, "blue/web"))
+        # who takes little comes before the second
+        operator.take(call(5, "blue/ops"))
+        given = [call(1)[:-1], FENCE[:-1], call(5, "blue/ops")[:-1]]
+        self.assertEqual(self.written, given)
+        for line in given[:2]:
+            self.desk.feed(reply_to(line))
+        operator.take(call(6, "blue/ops"))
+        # and is given nothing more while it waits for what is under way
+        self.assertEqual(self.written, given)
+        self.desk.feed(reply_to(given[2]))
+        self.assertEqual(self.written[3:], [call(3, "blue/web")[:-1], FENCE[:-1], call(6, "blue/ops")[:-1]])
+        # what is lost with the program holds nobody up
+        self.desk.lose()
+        self.written.clear()
+        self.desk.open(self.written.append, lambda: self.worked)
+        self.desk.fill()
+        self.assertEqual(self.written, [call(2) + FENCE])
 
     def test_a_line_that_takes_long_now_and_then_counts_for_nothing(self) -> None:
         lane = self.lanes["red"]

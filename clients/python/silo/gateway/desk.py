@@ -106,6 +106,8 @@ class Desk:
         self._turns: Deque[Lane] = collections.deque()
         self._asked: Deque[Asked] = collections.deque()
         self._written = self._bytes_written = 0
+        # whether the turn of a tenant whose lines are dear is under way
+        self._is_dear_asked = False
         self._last: Optional[Asked] = None
         self._torn: List[bytes] = []
         self._to_flush: Set[Asker] = set()
@@ -128,7 +130,7 @@ class Desk:
 
     def lose(self) -> None:
         """The program has ended: all that it was given is answered. What waits is asked of the next one."""
-        self._write, self._last = None, None
+        self._write, self._last, self._is_dear_asked = None, None, False
         self._torn.clear()
         while self._asked:
             asked = self._asked.popleft()
@@ -183,10 +185,19 @@ class Desk:
         if self._write is None:
             return
         given: List[bytes] = []
+        passed_by: List[Lane] = []
         until = time.monotonic() + MOST_SECONDS_AT_ONCE
         is_late = False
         while self._turns and not is_late and self._written < MOST_WRITTEN and self._bytes_written < MOST_BYTES_WRITTEN:
             lane = self._turns.popleft()
+            if lane.is_dear and self._asked:
+                # the program keeps replies until it has done all that it has read, so nothing is under way when a dear turn begins
+                if not self._is_dear_asked:
+                    self._turns.appendleft(lane)
+                    break
+                # all others wait for that turn anyway, and are given lines behind it
+                passed_by.append(lane)
+                continue
             lane.is_in_turn = False
             guest = lane.next_guest()
             if guest is None:
@@ -195,6 +206,8 @@ class Desk:
             if guest.waiting:
                 lane.wait(guest)
             self._wait(lane)
+        if passed_by:
+            self._turns.extendleft(reversed(passed_by))
         if given:
             self._write(b"".join(given))
         if self._turns and is_late:
@@ -213,6 +226,7 @@ class Desk:
         if lane.is_dear:
             # what grains sent is delivered behind an answer: the next line isn't given before that is done, so that others come before it
             lane.hold(1, 0)
+            self._is_dear_asked = True
             given.append(self._put(Asked(NOBODY, lane, answered(b""), time.monotonic(), 0)))
         return time.monotonic() >= until
 
@@ -348,7 +362,9 @@ class Desk:
             asked.lane.latency.note(now - asked.since, count)
         found, longest_found = self._answered.get(asked.lane, NOTHING)
         self._answered[asked.lane] = (found + count, max(longest, longest_found))
-        if asked.asker is not NOBODY:
+        if asked.asker is NOBODY:
+            self._is_dear_asked = False
+        else:
             self._last = asked
         if count == asked.left:
             self._asked.popleft()
