@@ -33,6 +33,8 @@ MAX_AGES = 64
 MAX_TENANTS = 1_000
 MAX_ACTIVATIONS = 10_000
 MAX_MAILBOX = 1_000
+# to make a tuple so takes a third of the time that its class takes: of a long journal these are the most
+CALL, END, CLIENT, REPLY = (partial(tuple.__new__, kind) for kind in (Call, End, Client, Reply))
 # what short fields read as is kept, since a journal says the same names and messages again and again
 MOST_KEPT = 8_192
 SHORT = 1_024
@@ -129,6 +131,7 @@ IS_NUMBER = re.compile("0|[1-9][0-9]{0,19}", re.ASCII).fullmatch
 IS_HEX = re.compile("([0-9a-f]{2})*", re.ASCII).fullmatch
 
 
+@lru_cache(maxsize=MOST_KEPT)
 def number(field: str, least: int = 0, most: int = MAX_NUMBER) -> int:
     found = int(field) if IS_NUMBER(field) else -1
     if not least <= found <= most:
@@ -196,7 +199,7 @@ def refuse_line(form: int, who: str, asked: str, why: str) -> Refuse:
 
 
 def call_line(form: int, who: str, asked: str, target: str, said: str) -> Call:
-    return Call(caller(who), number(asked), grain(target), *message(form, said))
+    return CALL((caller(who), number(asked), grain(target), *message(form, said)))
 
 
 def poke_line(form: int, who: str, asked: str, target: str, went: str, held: str) -> Poke:
@@ -214,7 +217,7 @@ STEP_LINES = {
     "load": (2, lambda _form, at, went: Load(grain(at), failed(went))),
     "begin": (1, lambda _form, at: Begin(grain(at))),
     "store": (3, lambda _form, at, turn, went: Store(grain(at), number(turn), failed(went))),
-    "end": (2, lambda _form, at, turn: End(grain(at), number(turn))),
+    "end": (2, lambda _form, at, turn: END((grain(at), number(turn)))),
     "abandon": (2, lambda _form, at, turn: Abandon(grain(at), number(turn))),
     "tick": (1, lambda _form, now: Tick(number(now))),
     "sweep": (0, lambda _form: Sweep()),
@@ -249,10 +252,10 @@ def read_fields(line: str, form: int) -> Step:
 def read_reply(line: str, _before: list, form: int, word: str = "reply", among: Collection[int] = codes.TEXTS) -> Reply:
     fields = line.split(" ", 5)
     fits(fields[0] == word and len(fields) >= 5)
-    to = grain(fields[1]) if fields[2] == "-" else Client(caller(fields[1]), number(fields[2]))
+    to = grain(fields[1]) if fields[2] == "-" else CLIENT((caller(fields[1]), number(fields[2])))
     if fields[3] == "ok":
         fits(len(fields) == 5)
-        return Reply(to, state(form, fields[4]))
+        return REPLY((to, state(form, fields[4]), None, ""))
     fits(fields[3] == "no" and len(fields) == 6 and re.fullmatch("[ -~]+", fields[5], re.ASCII))
     return Reply(to, code=code(form, among, fields[4]), text=fields[5])
 
@@ -340,7 +343,9 @@ def read_journal(text: bytes, most: int = NEWEST) -> Journal:
     tenants = reader.all_that(read_tenant)
     if not tenants:
         raise reader.refused()
-    steps, replies, rows = (reader.all_that(partial(read, form=form)) for read in (read_step, read_reply, read_row))
+    steps = reader.all_that(lambda line, before: read_step(line, before, form))
+    replies = reader.all_that(lambda line, before: read_reply(line, before, form))
+    rows = reader.all_that(lambda line, before: read_row(line, before, form))
     reader.next(lambda line, _before: fits(line == f"close {len(steps)}"))
     if reader.place < len(reader.lines) or reader.rest:
         raise reader.refused()
