@@ -13,9 +13,10 @@ mod pace;
 mod same;
 mod schedule;
 mod served;
+mod worker;
 mod workers;
 
 pub use gate::{FreeGate, TurnGate};
 pub use same::{SameAs, are_same};
 pub use served::{NextStep, ServedSilo};
-pub use workers::{WorkFault, work_lanes};
+pub use workers::{Crew, WorkFault, work_lanes};

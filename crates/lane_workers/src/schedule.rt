@@ -10,6 +10,7 @@ ghost use Rattle.lane_workers.specs.Batches.{closing_step, AreClosed, IsClosed, 
 use crate::bodies::RanTurn;
 use crate::pace::Pace;
 use crate::served::{NextStep, ServedSilo};
+use crate::worker::Worker;
 use bumpalo::Bump;
 use client_lanes::Lane;
 use grain_id::GrainId;
@@ -133,24 +134,16 @@ impl<W: ServedSilo + Drop> Schedule<W> {
 
 impl<W: ServedSilo> Schedule<W> {
     /// A worker reaches the lock: for the first time, or with turns whose bodies ran, which are closed. `met` says
-    /// whether it met another there. Before it ran the bodies it woke another by the waking of the number `waking`, or
-    /// none if that is 0.
-    pub fn come(
-        &mut self,
-        alloc: Global,
-        first: bool,
-        met: bool,
-        waking: u64,
-        turns: &[RanTurn<W::Logic>],
-    )
-        ensures { AreClosed W.answers W.Logic.logic self.old.silo turns.now self.new.silo }
+    /// whether it met another there.
+    pub fn come(&mut self, alloc: Global, met: bool, worker: &Worker<W::Logic>)
+        ensures { AreClosed W.answers W.Logic.logic self.old.silo worker.now.ran.items self.new.silo }
     {
-        if first {
+        if worker.first {
             self.pace.start();
         } else {
-            self.pace.come_back(met, waking);
+            self.pace.come_back(met, worker.waking);
         }
-        self.close_all(alloc, turns);
+        self.close_all(alloc, worker.ran.as_slice());
     }
 
     /// Closes turns by their results, one after another. If memory is refused even for abandoning a turn, or for noting
@@ -267,28 +260,24 @@ impl<W: ServedSilo> Schedule<W> {
 
     /// Takes steps until the worker has its share of turns, or nothing can be done now, unless the worker is better off
     /// at rest and isn't one that stays awake. If memory is refused, all work is abandoned.
-    pub fn fill(
-        &mut self,
-        alloc: Global,
-        arena: &mut Bump,
-        lanes: &[Lane],
-        turns: &mut VecDeque<OpenedTurn>,
-        first: bool,
-        stays: bool,
-    ) -> Task
-        ensures { deque_len turns.old ≤ most_turns first → deque_len turns.new ≤ most_turns first }
+    pub fn fill(&mut self, alloc: Global, lanes: &[Lane], worker: &mut Worker<W::Logic>) -> Task
+        ensures { deque_len worker.old.taken ≤ most_turns worker.old.first → deque_len worker.new.taken ≤ most_turns worker.old.first }
     {
-        if !stays && self.pace.rests() {
+        if !worker.stays && self.pace.rests() {
             return Task::Wait;
         }
         if self.stopped {
             return Task::Over;
         }
-        if self.take_turns(alloc, arena, lanes, turns, first).is_err() {
+        let first = worker.first;
+        if self
+            .take_turns(alloc, &mut worker.arena, lanes, &mut worker.taken, first)
+            .is_err()
+        {
             self.stopped = true;
             return Task::Over;
         }
-        if !turns.is_empty() {
+        if !worker.taken.is_empty() {
             Task::Run
         } else if self.open == 0 {
             Task::Over

@@ -1,181 +1,152 @@
 //! Workers, which take steps under one lock and run the bodies of turns without it.
 
-use crate::bodies::{RanTurn, run_all};
 use crate::gate::TurnGate;
 use crate::pace::Pace;
 use crate::schedule::{LanePlaces, Schedule, Task};
 use crate::served::ServedSilo;
-use bumpalo::Bump;
+use crate::worker::Worker;
 use client_lanes::Lane;
-use grain_logic::{GrainLogic, OpenedTurn};
-use std::alloc::Global;
-use std::collections::VecDeque;
+use std::alloc::{AllocError, Global};
 use std::sync::atomic::{AtomicUsize, Ordering};
 use std::sync::{Condvar, Mutex, MutexGuard, Wait};
 use std::thread;
 use std::thread::Threads;
 
-/// A worker's turns, and whether it was at the lock before.
+/// How many workers serve a silo, and by what they run the bodies of turns.
 #[derive(Drop)]
-struct Worker<L: GrainLogic> {
-    /// Those whose bodies ran.
-    ran: Vec<RanTurn<L>>,
-    /// Those that it took since.
-    taken: VecDeque<OpenedTurn>,
-    started: bool,
-    /// Whether it stays awake where others rest.
-    stays: bool,
-    /// By which waking it woke another before their bodies, or 0 if by none.
-    waking: u64,
+pub struct Crew<'x, G, L> {
+    pub workers: usize,
+    /// Is called for each turn.
+    pub gate: &'x G,
+    pub logic: L,
 }
 
-impl<L: GrainLogic> Worker<L> {
-    /// A worker that was never at the lock.
-    fn new(alloc: Global, stays: bool) -> Worker<L> {
-        Worker {
-            ran: Vec::new(alloc),
-            taken: VecDeque::new(alloc),
-            started: false,
-            stays,
-            waking: 0,
-        }
-    }
-}
-
-/// Takes the lock, and says whether another had it, or others wait for it.
-fn come<'b, W: ServedSilo, R: Wait>(
-    rt: &R,
-    schedule: &'b Mutex<Schedule<W>>,
-    waiting: &AtomicUsize,
-) -> (MutexGuard<'b, Schedule<W>>, bool) {
-    match schedule.try_lock() {
-        Some(held) => {
-            let met = waiting.load(Ordering::Relaxed) != 0;
-            (held, met)
-        }
-        None => {
-            waiting.fetch_add(1, Ordering::Relaxed);
-            let held = schedule.lock(rt);
-            waiting.fetch_sub(1, Ordering::Relaxed);
-            (held, true)
-        }
-    }
-}
-
-/// Takes the lock, closes the worker's last turns, and takes steps until it has turns to run. False if all is
-/// over.
-fn next_turns<W: ServedSilo, R: Wait>(
-    rt: &R,
+/// What the workers of one silo share.
+#[derive(Drop)]
+struct Shift<'x, W: ServedSilo, G> {
+    schedule: Mutex<Schedule<W>>,
+    /// How many workers wait for the lock.
+    waiting: AtomicUsize,
+    /// Wakes a worker when there is something to do, and all when all is over.
+    changed: Condvar,
     alloc: Global,
-    schedule: &Mutex<Schedule<W>>,
-    waiting: &AtomicUsize,
-    changed: &Condvar,
-    lanes: &[Lane],
-    arena: &mut Bump,
-    worker: &mut Worker<W::Logic>,
-) -> bool {
-    let (mut held, met) = come(rt, schedule, waiting);
-    let first = !worker.started;
-    worker.started = true;
-    held.come(alloc, first, met, worker.waking, worker.ran.as_slice());
-    for _ in rt.forever() {
-        match held.fill(alloc, arena, lanes, &mut worker.taken, first, worker.stays) {
-            Task::Run => {
-                let wakes = held.wakes();
-                worker.waking = if wakes { held.pace.wakings } else { 0 };
-                drop(held);
-                if wakes {
-                    changed.notify_one();
+    lanes: &'x [Lane],
+    gate: &'x G,
+}
+
+impl<'x, W: ServedSilo, G: TurnGate> Shift<'x, W, G> {
+    /// Takes the lock, and says whether another had it, or others wait for it.
+    fn come<R: Wait>(&self, rt: &R) -> (MutexGuard<'_, Schedule<W>>, bool) {
+        match self.schedule.try_lock() {
+            Some(held) => {
+                let met = self.waiting.load(Ordering::Relaxed) != 0;
+                (held, met)
+            }
+            None => {
+                self.waiting.fetch_add(1, Ordering::Relaxed);
+                let held = self.schedule.lock(rt);
+                self.waiting.fetch_sub(1, Ordering::Relaxed);
+                (held, true)
+            }
+        }
+    }
+
+    /// Takes the lock, closes the worker's last turns, and takes steps until it has turns to run. False if all is
+    /// over.
+    fn next_turns<R: Wait>(&self, rt: &R, worker: &mut Worker<W::Logic>) -> bool {
+        let (mut held, met) = self.come(rt);
+        held.come(self.alloc, met, worker);
+        for _ in rt.forever() {
+            match held.fill(self.alloc, self.lanes, worker) {
+                Task::Run => {
+                    worker.first = false;
+                    let wakes = held.wakes();
+                    worker.waking = if wakes { held.pace.wakings } else { 0 };
+                    drop(held);
+                    if wakes {
+                        self.changed.notify_one();
+                    }
+                    return true;
                 }
-                return true;
+                Task::Wait => {
+                    held.pace.sleep();
+                    held = self.changed.wait(rt, held);
+                    held.pace.wake_up();
+                }
+                Task::Over => {
+                    held.pace.leave();
+                    drop(held);
+                    self.changed.notify_all();
+                    return false;
+                }
             }
-            Task::Wait => {
-                held.pace.sleep();
-                held = changed.wait(rt, held);
-                held.pace.wake_up();
+        }
+        unreachable!()
+    }
+
+    /// A worker abandons all work, and ends.
+    fn give_up<R: Wait>(&self, rt: &R) {
+        let mut held = self.schedule.lock(rt);
+        held.give_up_all();
+        drop(held);
+        self.changed.notify_all();
+    }
+
+    /// A worker runs the turns that it took, and goes on until all is over. If there is no memory for the results of its
+    /// turns, all work is abandoned.
+    fn go_on<R: Wait>(&self, rt: &R, worker: &mut Worker<W::Logic>) {
+        for _ in rt.forever() {
+            if worker.run(self.alloc, self.gate).is_err() {
+                self.give_up(rt);
+                break;
             }
-            Task::Over => {
-                held.pace.leave();
-                drop(held);
-                changed.notify_all();
-                return false;
+            if !self.next_turns(rt, worker) {
+                break;
             }
         }
     }
-    unreachable!()
+
+    /// One worker, which may rest.
+    fn work<R: Wait>(&self, rt: &R, logic: W::Logic) {
+        let mut worker = Worker::new(self.alloc, logic, false);
+        if self.next_turns(rt, &mut worker) {
+            self.go_on(rt, &mut worker);
+        }
+    }
 }
 
-/// A worker abandons all work, and ends.
-fn give_up<W: ServedSilo, R: Wait>(rt: &R, schedule: &Mutex<Schedule<W>>, changed: &Condvar) {
-    let mut held = schedule.lock(rt);
-    held.give_up_all();
-    drop(held);
-    changed.notify_all();
-}
-
-/// A worker runs the turns that it took, and goes on until all is over. If there is no memory for the results of its
-/// turns, all work is abandoned.
-fn go_on<W: ServedSilo, G: TurnGate, R: Wait>(
-    rt: &R,
-    alloc: Global,
-    schedule: &Mutex<Schedule<W>>,
-    waiting: &AtomicUsize,
-    changed: &Condvar,
-    lanes: &[Lane],
-    gate: &G,
-    logic: W::Logic,
-    arena: &mut Bump,
-    worker: &mut Worker<W::Logic>,
-) {
-    for _ in rt.forever() {
-        worker.ran.clear();
-        let Ok(()) = worker.ran.reserve(worker.taken.len()) else {
-            give_up(rt, schedule, changed);
-            break;
+impl<'x, W: ServedSilo + Drop, G: TurnGate> Shift<'x, W, G> {
+    /// The silo before any step, for workers that are about to start.
+    ///
+    /// # Errors
+    ///
+    /// Out of memory. The silo is dropped then.
+    fn new(
+        alloc: Global,
+        silo: W,
+        lanes: &'x [Lane],
+        workers: usize,
+        gate: &'x G,
+    ) -> Result<Shift<'x, W, G>, AllocError> {
+        let Ok(places) = LanePlaces::new(alloc, lanes) else {
+            drop(silo);
+            return Err(AllocError);
         };
-        let Worker { ran, taken, .. } = &mut *worker;
-        run_all(alloc, arena, gate, &logic, taken, ran);
-        if !next_turns(rt, alloc, schedule, waiting, changed, lanes, arena, worker) {
-            break;
-        }
-    }
-}
-
-/// One worker, with an arena of its own, that may rest.
-fn work<W: ServedSilo, G: TurnGate, R: Wait>(
-    rt: &R,
-    alloc: Global,
-    schedule: &Mutex<Schedule<W>>,
-    waiting: &AtomicUsize,
-    changed: &Condvar,
-    lanes: &[Lane],
-    gate: &G,
-    logic: W::Logic,
-) {
-    let mut arena = Bump::new(alloc);
-    let mut worker = Worker::new(alloc, false);
-    if next_turns(
-        rt,
-        alloc,
-        schedule,
-        waiting,
-        changed,
-        lanes,
-        &mut arena,
-        &mut worker,
-    ) {
-        go_on(
-            rt,
+        let pace = Pace::new(workers, gate.watches());
+        Ok(Shift {
+            schedule: Mutex::new(Schedule::new(alloc, silo, places, pace)),
+            waiting: AtomicUsize::new(0),
+            changed: Condvar::new(),
             alloc,
-            schedule,
-            waiting,
-            changed,
             lanes,
             gate,
-            logic,
-            &mut arena,
-            &mut worker,
-        );
+        })
+    }
+
+    /// The silo, or none if all work was abandoned.
+    fn into_silo(self) -> Option<W> {
+        let Shift { schedule, .. } = self;
+        schedule.into_inner().into_silo()
     }
 }
 
@@ -184,52 +155,23 @@ fn work<W: ServedSilo, G: TurnGate, R: Wait>(
 /// the others was started, if there are any: if none was, nothing is served.
 fn run_workers<'x, W: ServedSilo + Send, G: TurnGate + Sync, R: Threads + Wait + Sync>(
     rt: &'x R,
-    alloc: Global,
-    schedule: &'x Mutex<Schedule<W>>,
-    waiting: &'x AtomicUsize,
-    changed: &'x Condvar,
-    lanes: &'x [Lane],
+    shift: &'x Shift<'x, W, G>,
     workers: usize,
-    gate: &'x G,
     logic: W::Logic,
 ) -> bool {
-    let mut arena = Bump::new(alloc);
-    let mut worker = Worker::new(alloc, true);
-    if !next_turns(
-        rt,
-        alloc,
-        schedule,
-        waiting,
-        changed,
-        lanes,
-        &mut arena,
-        &mut worker,
-    ) {
+    let mut worker = Worker::new(shift.alloc, logic, true);
+    if !shift.next_turns(rt, &mut worker) {
         return true;
     }
     thread::scope(thread::scope_env(), rt, |scope| {
         let mut started = workers == 1;
         for _ in 1..workers {
-            if scope
-                .spawn(move || work(rt, alloc, schedule, waiting, changed, lanes, gate, logic))
-                .is_ok()
-            {
+            if scope.spawn(move || shift.work(rt, logic)).is_ok() {
                 started = true;
             }
         }
         if started {
-            go_on(
-                rt,
-                alloc,
-                schedule,
-                waiting,
-                changed,
-                lanes,
-                gate,
-                logic,
-                &mut arena,
-                &mut worker,
-            );
+            shift.go_on(rt, &mut worker);
         }
         started
     })
@@ -244,7 +186,7 @@ pub enum WorkFault {
     NoWorker,
 }
 
-/// Serves the lanes over the silo by `workers` workers, and returns the silo as they left it. A lane gives its next
+/// Serves the lanes over the silo by the crew, and returns the silo as they left it. A lane gives its next
 /// step once its last one has its reply; after a tick or a sweep, once that was taken. One of the workers is this
 /// thread, so one alone needs no other.
 ///
@@ -259,24 +201,20 @@ pub fn work_lanes<W: ServedSilo + Drop + Send, G: TurnGate + Sync, R: Threads + 
     alloc: Global,
     silo: W,
     lanes: &[Lane],
-    workers: usize,
-    gate: &G,
-    logic: W::Logic,
+    crew: Crew<'_, G, W::Logic>,
 ) -> Result<W, WorkFault> {
-    let Ok(places) = LanePlaces::new(alloc, lanes) else {
-        drop(silo);
+    let Crew {
+        workers,
+        gate,
+        logic,
+    } = crew;
+    let Ok(shift) = Shift::new(alloc, silo, lanes, workers, gate) else {
         return Err(WorkFault::Memory);
     };
-    let pace = Pace::new(workers, gate.watches());
-    let schedule = Mutex::new(Schedule::new(alloc, silo, places, pace));
-    let changed = Condvar::new();
-    let waiting = AtomicUsize::new(0);
-    if !run_workers(
-        rt, alloc, &schedule, &waiting, &changed, lanes, workers, gate, logic,
-    ) {
+    if !run_workers(rt, &shift, workers, logic) {
         return Err(WorkFault::NoWorker);
     }
-    match schedule.into_inner().into_silo() {
+    match shift.into_silo() {
         Some(silo) => Ok(silo),
         None => Err(WorkFault::Memory),
     }

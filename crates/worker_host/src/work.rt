@@ -14,7 +14,7 @@ use client_lanes::Lane;
 use grain_id::HashSeed;
 use grain_logic::GrainLogic;
 use grain_storage::GrainStorage;
-use lane_workers::{TurnGate, work_lanes};
+use lane_workers::{Crew, TurnGate, work_lanes};
 use silo_core::Setup;
 use std::alloc::Global;
 use std::sync::Wait;
@@ -106,6 +106,11 @@ pub fn serve_seeded<
     let opened = SetupCopy::copied(alloc, &setup)?;
     let logic = setup.logic;
     let silo = WorkingSilo::seeded(alloc, setup, seed, lanes)?;
-    let left = work_lanes(rt, alloc, silo, lanes, workers, gate, logic)?;
+    let crew = Crew {
+        workers,
+        gate,
+        logic,
+    };
+    let left = work_lanes(rt, alloc, silo, lanes, crew)?;
     settle(alloc, seed, left, &opened, lanes)
 }
