@@ -10,7 +10,7 @@ use Rattle.std.proofs.lemmas.Result.{IfOk-at_ok}
 use Rattle.journal_text.specs.Text.{History}
 use Rattle.tenant_audit.specs.inside.Parts.{AreParts, IsPart, IsShareOf}
 use Rattle.tenant_audit.specs.declared.report.TenantReport.{TenantReport}
-use Rattle.tenant_audit.specs.declared.threads.AuditShare.{AuditShare}
+use Rattle.tenant_audit.specs.declared.parts.AuditShare.{AuditShare}
 
 abbrev pub Reports : Type 0
 Reports = VecDeque TenantReport Global

@@ -13,6 +13,18 @@ use grain_id::{HashSeed, Tenant};
 use journal_text::Journal;
 use std::alloc::{AllocError, Global};
 use std::collections::VecDeque;
+use std::thread::Promise;
+
+/// What threads audit together: a journal, and its tenants, each of whom one of the threads reports.
+#[derive(Clone, Copy)]
+pub struct SharedAudit<'a> {
+    pub journal: &'a Journal,
+    pub tenants: &'a [Tenant],
+    /// How many threads there are.
+    pub threads: usize,
+    /// The maps of the tenants' machines hash from it.
+    pub seed: HashSeed,
+}
 
 /// Which tenants a thread reports: those whose places, counted from 0, leave `place` by `stride`. The maps of
 /// their machines hash from the seed.
@@ -23,28 +35,60 @@ pub struct Share {
     pub seed: HashSeed,
 }
 
-/// Adds the report of the tenant at the index, if the share has that one.
-fn keep<G: AuditGate>(
-    alloc: Global,
-    reports: &mut VecDeque<TenantReport>,
-    journal: &PartedJournal<'_>,
-    tenants: &[Tenant],
-    gate: &G,
-    share: Share,
-    index: usize,
-) -> Result<(), AllocError>
-    requires stride { 0 < share.stride }
-    requires index { index < length tenants.now }
-    ensures tenants { OnOk result (reported reports.new.items
-        ≡ reported reports.old.items ++ if_shared share.stride share.place index (slice_index_or tenants.now index [])) }
-    ensures each { OnOk result (AreReports journal.now reports.old.items → AreReports journal.now reports.new.items) }
-{
-    if index % share.stride == share.place {
-        let tenant = &tenants[index];
-        gate.entered(tenant);
-        reports.push_back(report_as_named(alloc, share.seed, journal, tenant.clone()?)?)?;
+/// A thread's share of an audit. It promises the reports of the share's tenants.
+#[derive(Clone, Copy)]
+pub struct AuditShare<'a> {
+    pub journal: &'a Journal,
+    pub tenants: &'a [Tenant],
+    pub share: Share,
+}
+
+impl<'a> Promise<Result<VecDeque<TenantReport>, AllocError>> for AuditShare<'a> {
+    ghost kept_by = { λ work r. IfOk r (λ reports.
+        IsPart work.journal.now work.tenants.now work.share.stride work.share.place 0 reports.items) };
+}
+
+impl<'a> AuditShare<'a> {
+    /// Adds the report of the tenant at the index, if the share has that one.
+    fn keep<G: AuditGate>(
+        &self,
+        alloc: Global,
+        reports: &mut VecDeque<TenantReport>,
+        journal: &PartedJournal<'_>,
+        gate: &G,
+        index: usize,
+    ) -> Result<(), AllocError>
+        requires stride { 0 < self.now.share.stride }
+        requires index { index < length self.now.tenants.now }
+        ensures tenants { OnOk result (reported reports.new.items ≡ reported reports.old.items
+            ++ if_shared self.now.share.stride self.now.share.place index (slice_index_or self.now.tenants.now index [])) }
+        ensures each { OnOk result (AreReports journal.now reports.old.items → AreReports journal.now reports.new.items) }
+    {
+        if index % self.share.stride == self.share.place {
+            let tenant = &self.tenants[index];
+            gate.entered(tenant);
+            reports.push_back(report_as_named(alloc, self.share.seed, journal, tenant.clone()?)?)?;
+        }
+        Ok(())
     }
-    Ok(())
+
+    /// The reports of its tenants, in order.
+    fn reports<G: AuditGate>(
+        &self,
+        alloc: Global,
+        gate: &G,
+    ) -> Result<VecDeque<TenantReport>, AllocError>
+        requires { 0 < self.now.share.stride }
+        ensures { IfOk result (λ reports.
+            IsPart self.now.journal.now self.now.tenants.now self.now.share.stride self.now.share.place 0 reports.items) }
+    {
+        let parted = PartedJournal::new(alloc, self.journal)?;
+        let mut reports = VecDeque::new(alloc);
+        'places: for index in 0..self.tenants.len() {
+            self.keep(alloc, &mut reports, &parted, gate, index)?;
+        }
+        Ok(reports)
+    }
 }
 
 /// The reports of the tenants of a share, in order.
@@ -58,12 +102,12 @@ pub fn part<G: AuditGate>(
     requires { 0 < share.stride }
     ensures { IfOk result (λ reports. IsPart journal.now tenants.now share.stride share.place 0 reports.items) }
 {
-    let parted = PartedJournal::new(alloc, journal)?;
-    let mut reports = VecDeque::new(alloc);
-    'places: for index in 0..tenants.len() {
-        keep(alloc, &mut reports, &parted, tenants, gate, share, index)?;
-    }
-    Ok(reports)
+    let work = AuditShare {
+        journal,
+        tenants,
+        share,
+    };
+    work.reports(alloc, gate)
 }
 
 /// Takes the first report out of the part that has the index.

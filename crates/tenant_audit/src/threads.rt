@@ -4,11 +4,11 @@ ghost use Rattle.std.specs.Prelude.{◌≡◌, ◌<◌, ◌≤◌, ℕ, true, fa
 ghost use Rattle.std.specs.List.{list_any};
 ghost use Rattle.grain_kinds.specs.Kinds.{logic_of};
 ghost use Rattle.audit_model.specs.Report.{IsReport};
-ghost use Rattle.tenant_audit.specs.inside.Parts.{AreParts, IsPart, IsShareOf, fault_of_start};
+ghost use Rattle.tenant_audit.specs.inside.Parts.{AreParts, IsShareOf, fault_of_start};
 ghost use Rattle.tenant_audit.specs.declared.threads.AuditFault.TheVariants as faults;
 
 use crate::gate::{AuditGate, FreeAuditGate};
-use crate::parts::{Share, merge, part};
+use crate::parts::{AuditShare, Share, SharedAudit, merge, part};
 use crate::report::{Report, TenantReport};
 use crate::tenants::tenants_of;
 use grain_id::{HashSeed, Tenant};
@@ -17,7 +17,7 @@ use std::alloc::{AllocError, Global};
 use std::collections::VecDeque;
 use std::sync::Wait;
 use std::thread;
-use std::thread::{Promise, PromisedHandle, Scope, Threads};
+use std::thread::{PromisedHandle, Scope, Threads};
 use thiserror::Error;
 
 /// The most threads that audit a journal.
@@ -42,19 +42,6 @@ impl From<AllocError> for AuditFault {
     }
 }
 
-/// A thread's share of an audit. It promises the reports of the share's tenants.
-#[derive(Clone, Copy)]
-pub struct AuditShare<'a> {
-    journal: &'a Journal,
-    tenants: &'a [Tenant],
-    share: Share,
-}
-
-impl<'a> Promise<Result<VecDeque<TenantReport>, AllocError>> for AuditShare<'a> {
-    ghost kept_by = { λ work r. IfOk r (λ reports.
-        IsPart work.journal.now work.tenants.now work.share.stride work.share.place 0 reports.items) };
-}
-
 /// Starts the thread that does this work.
 fn start_part<'s, E, G: AuditGate + Sync>(
     scope: &Scope<'s, E>,
@@ -71,47 +58,6 @@ fn start_part<'s, E, G: AuditGate + Sync>(
             move || part(alloc, work.journal, work.tenants, gate, work.share),
         )
         .ok()
-}
-
-/// Starts a thread for each share, up to the first that can't be started; and whether all were.
-fn start_parts<'s, E, G: AuditGate + Sync>(
-    scope: &Scope<'s, E>,
-    alloc: Global,
-    seed: HashSeed,
-    journal: &'s Journal,
-    tenants: &'s [Tenant],
-    gate: &'s G,
-    workers: usize,
-) -> Result<
-    (
-        Vec<PromisedHandle<Result<VecDeque<TenantReport>, AllocError>, AuditShare<'s>>>,
-        bool,
-    ),
-    AllocError,
->
-    requires { 0 < workers }
-    ensures all { IfOk result (λ started. started.1 ≡ true → length started.0.items ≡ workers) }
-    ensures each { IfOk result (λ started. (k : ℕ) (d : _) → k < length started.0.items
-        → IsShareOf journal.now tenants.now k workers (slice_index_or started.0.items k d).promise) }
-{
-    let mut handles = Vec::with_capacity(alloc, workers)?;
-    'places: for place in 0..workers {
-        let share = Share {
-            place,
-            stride: workers,
-            seed,
-        };
-        let work = AuditShare {
-            journal,
-            tenants,
-            share,
-        };
-        let Some(handle) = start_part(scope, alloc, work, gate) else {
-            return Ok((handles, false));
-        };
-        handles.push_reserved(handle);
-    }
-    Ok((handles, true))
 }
 
 /// Whether memory was refused to one of the threads that gave these.
@@ -165,26 +111,63 @@ fn joined_parts(
     Ok(all_given(alloc, results)?)
 }
 
-/// The parts of all shares, each made by a thread of its own.
-fn run_parts<'s, E, R: Threads, G: AuditGate + Sync>(
-    rt: &R,
-    scope: &Scope<'s, E>,
-    alloc: Global,
-    seed: HashSeed,
-    journal: &'s Journal,
-    tenants: &'s [Tenant],
-    gate: &'s G,
-    workers: usize,
-) -> Result<Vec<VecDeque<TenantReport>>, AuditFault>
-    requires { 0 < workers }
-    ensures len { IfOk result (λ parts. length parts.items ≡ workers) }
-    ensures each { IfOk result (λ parts. AreParts journal.now tenants.now 0 parts.items) }
-{
-    let (handles, all_started) = start_parts(scope, alloc, seed, journal, tenants, gate, workers)?;
-    let Ok(results) = thread::join_promised(rt, handles) else {
-        return Err(AuditFault::Memory);
-    };
-    joined_parts(alloc, results, all_started)
+impl<'s> SharedAudit<'s> {
+    /// Starts a thread for each share, up to the first that can't be started; and whether all were.
+    fn start_parts<E, G: AuditGate + Sync>(
+        &self,
+        scope: &Scope<'s, E>,
+        alloc: Global,
+        gate: &'s G,
+    ) -> Result<
+        (
+            Vec<PromisedHandle<Result<VecDeque<TenantReport>, AllocError>, AuditShare<'s>>>,
+            bool,
+        ),
+        AllocError,
+    >
+        requires { 0 < self.now.threads }
+        ensures all { IfOk result (λ started. started.1 ≡ true → length started.0.items ≡ self.now.threads) }
+        ensures each { IfOk result (λ started. (k : ℕ) (d : _) → k < length started.0.items
+            → IsShareOf self.now.journal.now self.now.tenants.now k self.now.threads (slice_index_or started.0.items k d).promise) }
+    {
+        let mut handles = Vec::with_capacity(alloc, self.threads)?;
+        'places: for place in 0..self.threads {
+            let share = Share {
+                place,
+                stride: self.threads,
+                seed: self.seed,
+            };
+            let work = AuditShare {
+                journal: self.journal,
+                tenants: self.tenants,
+                share,
+            };
+            let Some(handle) = start_part(scope, alloc, work, gate) else {
+                return Ok((handles, false));
+            };
+            handles.push_reserved(handle);
+        }
+        Ok((handles, true))
+    }
+
+    /// The parts of all shares, each made by a thread of its own.
+    fn run_parts<E, R: Threads, G: AuditGate + Sync>(
+        &self,
+        rt: &R,
+        scope: &Scope<'s, E>,
+        alloc: Global,
+        gate: &'s G,
+    ) -> Result<Vec<VecDeque<TenantReport>>, AuditFault>
+        requires { 0 < self.now.threads }
+        ensures len { IfOk result (λ parts. length parts.items ≡ self.now.threads) }
+        ensures each { IfOk result (λ parts. AreParts self.now.journal.now self.now.tenants.now 0 parts.items) }
+    {
+        let (handles, all_started) = self.start_parts(scope, alloc, gate)?;
+        let Ok(results) = thread::join_promised(rt, handles) else {
+            return Err(AuditFault::Memory);
+        };
+        joined_parts(alloc, results, all_started)
+    }
 }
 
 /// Audits a journal, under the logic that it names, by several threads: as many as there are workers, and no more than
@@ -221,7 +204,15 @@ pub fn audit_seeded<R: Threads + Wait + Sync, G: AuditGate + Sync>(
             requires { 0 < threads }
             ensures len { IfOk result (λ parts. length parts.items ≡ threads) }
             ensures each { IfOk result (λ parts. AreParts journal.entry.now tenants.entry.now 0 parts.items) }
-        { run_parts(rt, scope, alloc, seed, journal, tenants, gate, threads) },
+        {
+            let audit = SharedAudit {
+                journal,
+                tenants,
+                threads,
+                seed,
+            };
+            audit.run_parts(rt, scope, alloc, gate)
+        },
     )?;
     Ok(Report::new(merge(alloc, journal, tenants, parts)?))
 }

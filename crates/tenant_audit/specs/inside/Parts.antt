@@ -12,7 +12,7 @@ use Rattle.tenant_audit.specs.ReportView.{tenant_report_of}
 use Rattle.tenant_audit.specs.declared.report.TenantReport.{TenantReport}
 use Rattle.tenant_audit.specs.declared.threads.AuditFault.{AuditFault}
 use Rattle.tenant_audit.specs.declared.threads.AuditFault.TheVariants as faults
-use Rattle.tenant_audit.specs.declared.threads.AuditShare.{AuditShare}
+use Rattle.tenant_audit.specs.declared.parts.AuditShare.{AuditShare}
 
 -- the elements whose place, counted from the base, leaves k by w
 abbrev pub strided : {X : Type 0} → ℕ → ℕ → ℕ → List X → List X

@@ -2,12 +2,12 @@ use Rattle.std.proofs.Common.{◌<◌, ◌++◌, [], length, get_or, ap, sym, �
 use Rattle.journal_text.specs.Text.{History}
 use Rattle.tenant_audit.specs.inside.Parts.{AreReports, if_shared}
 use Rattle.tenant_audit.proofs.Strided.{strided_more}
-use Rattle.tenant_audit.proofs.parts.part.Goals as goal
+use Rattle.tenant_audit.proofs.parts.AuditShare.reports.Goals as goal
 
 pub places-preserved : goal.places-preserved
 places-preserved g c =
-    let share = c.args.share in
-    let tenants = c.args.tenants.now in
+    let share = c.args.self.now.share in
+    let tenants = c.args.self.now.tenants.now in
     let within : c.places.index < length tenants = search rules in
     let parted = c.in_ok-parted.ensures in
     record {
