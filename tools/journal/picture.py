@@ -120,7 +120,7 @@ class Picture:
     def begin(self, done: Done) -> None:
         opened = self.open.setdefault(done.grain, {})
         used = {place for _begin, place, _asked in opened.values()}
-        place = next(place for place in range(len(used) + 1) if place not in used)
+        place = next(place for place in range(len(used) + 1) if place not in used) if used else 0
         opened[done.request.number] = (done.number, place, done.request)
 
     def is_shown(self, begin: int, end: int) -> bool:
@@ -175,7 +175,7 @@ class Picture:
         source = step.grain if isinstance(step, Deliver) else None
         if source is not None:
             self.mark(number, source, "deliver", text)
-        refused = any(reply.code is not None for reply in replies)
+        refused = bool(replies) and any([reply.code is not None for reply in replies])
         if isinstance(step, (Call, Deliver)) and not refused:
             self.mark(number, own, "call", text, bound=source)
         if isinstance(step, Poke) and own is not None and not refused:
