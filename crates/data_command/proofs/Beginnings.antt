@@ -1,7 +1,9 @@
 -- With what a silo goes on, by what a folder has.
 use Rattle.std.proofs.Common.{Bool, Err, IfOk, OnOk, Ok, OnErr, Result, ◌≡◌, ◌∙◌, ℕ, List, [], ◌++◌, Option, None, Some, ap, inl, inr, length, refl, subst, sym}
-use Rattle.std.specs.Prelude.{◌⊎◌}
+use Rattle.std.specs.Prelude.{◌⊎◌, Vec, false, option_map}
+use Rattle.std.specs.declared.alloc.Global.{Global}
 use Rattle.grain_logic.specs.Logic.{Logic}
+use Rattle.silo_model.specs.Opening.{Setup, opening}
 use Rattle.silo_core.specs.History.{History}
 use Rattle.silo_state.specs.KeptParts.{MayResume, kept_in}
 use Rattle.silo_state.specs.declared.parts.KeptParts.{KeptParts}
@@ -21,7 +23,7 @@ use Rattle.data_command.specs.Words.{head_words}
 use Rattle.data_command.specs.declared.fault.DataFault.{DataFault}
 use Rattle.data_command.specs.declared.fault.DataFault.TheVariants as data_fault
 use Rattle.data_command.specs.declared.starting.LogTask.{LogTask}
-use Rattle.data_command.specs.inside.Ready.{HasFound, HasNumber, IsReady, IsWrongLog, SaysWords}
+use Rattle.data_command.specs.inside.Ready.{CantGoOn, FailsToRead, HasFound, HasNumber, IsReady, IsWrongLog, SaysWords}
 
 pub on_err_so : {T E : Type 0} (r : Result T E) (P Q : Type 0) → (P → Q) → OnErr r P → OnErr r Q
 on_err_so (Ok v) P Q so is = is
@@ -58,6 +60,21 @@ module _ (start : Start) (sends : ℕ) (old now : LogView) (log : Option (List �
   pub says_same : (saved : Saved) (words : List ℕ) → words ≡ head_words start sends → SaysWords saved start.version.number sends words → head_words (started start.version saved.setup) sends ≡ head_words start sends
   says_same saved words worded same =
       (λ i. head_words (started (record start.version { number = sym same.0 i }) saved.setup) (sym same.1 i)) ∙ same.2 ∙ worded
+
+  -- the silo is that of the checkpoint
+  pub goes_on : (new : LogView) (saved : Saved) (task : LogTask) → task.words.items ≡ head_words start sends → task.kinds ≡ start.version.number → task.sends ≡ sends
+      → SaysWords saved start.version.number sends task.words.items → (silo : History) (stopped keeps : Bool) → silo.setup ≡ saved.setup → silo.whole ≡ opening silo.setup
+      → stopped ≡ false → keeps ≡ false → (new.acts ≡ Some [] → new.begun ≡ option_map (λ (bytes : Vec ℕ Global). bytes.items) task.log)
+      → IsReady start.version sends new silo stopped keeps task
+  goes_on new saved task worded kinds sends_are same silo stopped keeps setup opened runs drops found = record {
+    runs = runs;
+    drops = drops;
+    opens = opened;
+    words = worded ∙ sym (says_same saved task.words.items worded same) ∙ ap (λ (s : Setup). head_words (started start.version s) sends) (sym setup);
+    kinds = kinds;
+    sends_are = sends_are;
+    found = found;
+  }
 
   -- the bytes that were found are those of the log that is known now
   pub found_now : (point : Option (List ℕ)) → HasFound old now log point → now.acts ≡ Some [] → now.begun ≡ log
@@ -131,19 +148,29 @@ module _ (start : Start) (sends : ℕ) (old now : LogView) (log : Option (List �
     -- ---- no silo goes on with it, and nothing was done
 
     -- the checkpoint says nothing
-    pub says_nothing : ((saved : Saved) → HasText point saved → ⊥) → OpeningFailsBy start sends (since old now) data_fault.NoCheckpoint
+    says_nothing : ((saved : Saved) → HasText point saved → ⊥) → OpeningFailsBy start sends (since old now) data_fault.NoCheckpoint
     says_nothing none = (f.left, record { point = point; was = f.point_is; bad = inl none })
 
     -- or what can't be gone on with
-    pub says_too_much : (saved : Saved) → HasText point saved → (parts : KeptParts) → kept_in parts ≡ saved.setup.kept → (MayResume start.version.logic parts → ⊥)
+    says_too_much : (saved : Saved) → HasText point saved → (parts : KeptParts) → kept_in parts ≡ saved.setup.kept → (MayResume start.version.logic parts → ⊥)
         → OpeningFailsBy start sends (since old now) data_fault.NoCheckpoint
     says_too_much saved says parts are not = (f.left, record { point = point; was = f.point_is; bad = inr (saved, says, (parts, are, not)) })
 
-    pub lacks_log : log ≡ None → OpeningFailsBy start sends (since old now) data_fault.NoLog
+    pub resume_fails : (saved : Saved) → HasText point saved → (parts : KeptParts) → kept_in parts ≡ saved.setup.kept → (why : DataFault)
+        → (why ≡ data_fault.Failed cause.Memory) ⊎ ((why ≡ data_fault.NoCheckpoint) × (MayResume start.version.logic parts → ⊥)) → OpeningFailsBy start sends (since old now) why
+    resume_fails saved says parts are why (inl is) = subst (λ (w : DataFault). OpeningFailsBy start sends (since old now) w) (sym is) tt
+    resume_fails saved says parts are why (inr is) = subst (λ (w : DataFault). OpeningFailsBy start sends (since old now) w) (sym is.0) (says_too_much saved says parts are is.1)
+
+    lacks_log : log ≡ None → OpeningFailsBy start sends (since old now) data_fault.NoLog
     lacks_log none = (f.left, record { point = point; was = f.point_is; none = λ e. sym none ∙ f.log_is e })
 
+    -- the checkpoint isn't read
+    pub point_fails : (why : DataFault) → FailsToRead point why → OpeningFailsBy start sends (since old now) why
+    point_fails why (inl is) = subst (λ (w : DataFault). OpeningFailsBy start sends (since old now) w) (sym is) tt
+    point_fails why (inr is) = subst (λ (w : DataFault). OpeningFailsBy start sends (since old now) w) (sym is.0) (says_nothing is.1)
+
     -- the log has another number, or is none
-    pub wrong_log : (saved : Saved) → HasText point saved → (words : List ℕ) → words ≡ head_words start sends → (bytes : List ℕ) → log ≡ Some bytes → (why : DataFault)
+    wrong_log : (saved : Saved) → HasText point saved → (words : List ℕ) → words ≡ head_words start sends → (bytes : List ℕ) → log ≡ Some bytes → (why : DataFault)
         → IsWrongLog words (spelled (sum_in point)) saved.follows bytes why → OpeningFailsBy start sends (since old now) why
     wrong_log saved says words worded bytes there data_fault.OtherWords is = (
       f.left,
@@ -176,6 +203,13 @@ module _ (start : Start) (sends : ℕ) (old now : LogView) (log : Option (List �
     wrong_log saved says words worded bytes there (data_fault.HasTenant name) is = absurd is
     wrong_log saved says words worded bytes there data_fault.NoLog is = absurd is
     wrong_log saved says words worded bytes there (data_fault.Otherwise line) is = absurd is
+
+    -- no log goes on from the checkpoint
+    pub cant_go_on : (saved : Saved) → HasText point saved → (words : List ℕ) → words ≡ head_words start sends → (why : DataFault)
+        → CantGoOn words (spelled (sum_in point)) saved.follows log why → OpeningFailsBy start sends (since old now) why
+    cant_go_on saved says words worded why (inl is) = subst (λ (w : DataFault). OpeningFailsBy start sends (since old now) w) (sym is) tt
+    cant_go_on saved says words worded why (inr (inl is)) = subst (λ (w : DataFault). OpeningFailsBy start sends (since old now) w) (sym is.0) (lacks_log is.1)
+    cant_go_on saved says words worded why (inr (inr is)) = wrong_log saved says words worded is.0 is.1 why is.2
 
 -- ---- what a run is handed
 

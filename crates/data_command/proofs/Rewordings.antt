@@ -1,5 +1,5 @@
 -- A silo that goes on from a checkpoint of other words.
-use Rattle.std.proofs.Common.{◌≡◌, ◌<◌, ◌≤◌, ◌∙◌, ℕ, List, [], Option, Some, None, ap, inl, inr, refl, subst, sym, true≢false}
+use Rattle.std.proofs.Common.{◌≡◌, ◌<◌, ◌≤◌, ◌∙◌, ℕ, List, [], Option, Some, None, Result, Ok, Err, IfOk, IfErr, OnErr, ap, inl, inr, refl, subst, sym, true≢false}
 use Rattle.std.specs.Prelude.{◌⊎◌, is_some}
 use Rattle.std.specs.FinMap.{from_entries}
 use Rattle.arrayvec.specs.ArrayString.{ArrayString}
@@ -23,7 +23,7 @@ use Rattle.data_command.specs.declared.fault.DataFault.{DataFault}
 use Rattle.data_command.specs.declared.fault.DataFault.TheVariants as data_fault
 use Rattle.data_command.specs.inside.Ready.{HasFound, SaysWords}
 use Rattle.data_command.specs.inside.Replacing.{AreTexts}
-use Rattle.data_command.specs.inside.Rewording.{FailsToBegin, HasReadOther, MayChange, MayNotChange, words_in}
+use Rattle.data_command.specs.inside.Rewording.{FailsToBegin, FromOther, HasReadOther, MayChange, MayNotChange, words_in}
 
 module _ (start : Start) (sends : ℕ) (old now : LogView) (number : ℕ) (log : Option (List ℕ)) (saved : Saved) (h : HasReadOther start sends old now number log saved) where
   abbrev before : Start
@@ -157,11 +157,26 @@ module _ (start : Start) (sends : ℕ) (old now : LogView) (number : ℕ) (log :
   may_not parts rows kept rows_are (data_fault.Refused line) is = absurd is
   may_not parts rows kept rows_are (data_fault.Otherwise line) is = absurd is
 
--- a checkpoint of other words was read
-pub read_other : (start : Start) (sends : ℕ) (old now : LogView) (number : ℕ) (log : Option (List ℕ)) (saved : Saved) (point : List ℕ) → HasFound old now log (Some point) → HasText point saved
-    → number ≡ sum_in point → (given : List ℕ) → given ≡ head_words start sends → (SaysWords saved start.version.number sends given → ⊥) → HasReadOther start sends old now number log saved
-read_other start sends old now number log saved point found says number_is given worded not =
-    record { point = point; found = found; says = says; number_is = number_is; other = λ same. not (same.0, same.1, same.2 ∙ sym worded) }
+-- a checkpoint of other words was read: what holds wherever it was holds of the folder
+module _ (start : Start) (sends : ℕ) (now : LogView) (number : ℕ) (log : Option (List ℕ)) (saved : Saved) (point : List ℕ) (says : HasText point saved) (number_is : number ≡ sum_in point)
+    (given : List ℕ) (worded : given ≡ head_words start sends) (not : SaysWords saved start.version.number sends given → ⊥) where
+  read_other : (old : LogView) → HasFound old now log (Some point) → HasReadOther start sends old now number log saved
+  read_other old found = record { point = point; found = found; says = says; number_is = number_is; other = λ same. not (same.0, same.1, same.2 ∙ sym worded) }
+
+  pub ok_other : {T E : Type 0} (r : Result T E) (Holds : T → LogView → Type 0) → IfOk r (λ v. FromOther start sends now number log saved (Holds v))
+      → IfOk r (λ v. (old : LogView) → HasFound old now log (Some point) → Holds v old)
+  ok_other (Ok v) Holds so = λ old found. so old (read_other old found)
+  ok_other (Err e) Holds so = so
+
+  pub err_other : {T E : Type 0} (r : Result T E) (Holds : E → LogView → Type 0) → IfErr r (λ e. FromOther start sends now number log saved (Holds e))
+      → IfErr r (λ e. (old : LogView) → HasFound old now log (Some point) → Holds e old)
+  err_other (Ok v) Holds so = so
+  err_other (Err e) Holds so = λ old found. so old (read_other old found)
+
+  pub on_err_other : {T E : Type 0} (r : Result T E) (Holds : LogView → Type 0) → OnErr r (FromOther start sends now number log saved Holds)
+      → OnErr r ((old : LogView) → HasFound old now log (Some point) → Holds old)
+  on_err_other (Ok v) Holds so = so
+  on_err_other (Err e) Holds so = λ old found. so old (read_other old found)
 
 -- the log behind a switch is known only if the one before was
 pub log_then : (now new : LogView) (text head : List ℕ) → (now.acts ≡ None → new.acts ≡ None) → Switches now.acts now.begun now.past new.acts new.begun new.past text head

@@ -9,11 +9,12 @@ ghost use Rattle.log_text.specs.Head.{head_text};
 ghost use Rattle.log_text.specs.Sums.{spelled};
 ghost use Rattle.log_host.specs.Files.{Begins, MayBegin};
 ghost use Rattle.silo_checkpoint.specs.Answers.{saved_in};
+ghost use Rattle.silo_checkpoint.specs.Saved.{HasText, sum_in};
 ghost use Rattle.command_parts.specs.Setups.{setup_of, started, starting, version_of};
 ghost use Rattle.data_command.specs.Data.{LogView, log_view, since};
 ghost use Rattle.data_command.specs.Folder.{FolderLasts, OpeningFailsBy, OpensAt};
 ghost use Rattle.data_command.specs.Words.{head_words};
-ghost use Rattle.data_command.specs.inside.Ready.{HasFound, HasNumber, IsReady, IsWrongLog, SaysWords};
+ghost use Rattle.data_command.specs.inside.Ready.{CantGoOn, FailsToRead, HasFound, HasLog, HasNumber, IsReady, IsWrongLog, SaysWords};
 
 use crate::fault::DataFault;
 use crate::found::Found;
@@ -180,139 +181,189 @@ fn new_log<F: DataFiles>(
 /// The silo that starts with what the words say.
 fn new_ready<L: GrainLogic + Drop>(
     alloc: Global,
-    opening: DataOpening<L>,
-    words: Vec<u8>,
-    log: Option<Vec<u8>>,
+    start: Start<L>,
+    task: LogTask,
 ) -> Result<ReadySilo<L>, DataFault>
-    requires { words.items ≡ head_words
-        (starting (version_of L.logic opening.start.kinds) opening.start.tenants opening.start.age opening.start.ages) opening.sends }
-    ensures setup { IfOk result (λ r. r.silo.history.setup ≡ setup_of opening.start.tenants opening.start.age opening.start.ages) }
-    ensures ready { IfOk result (λ r. (now : LogView) → (now.acts ≡ Some [] → now.begun ≡ option_map (λ bytes. bytes.items) log)
-        → IsReady (version_of L.logic opening.start.kinds) opening.sends now r.silo.history r.silo.stopped r.silo.keeps r.task) }
+    requires words { task.words.items
+        ≡ head_words (starting (version_of L.logic start.kinds) start.tenants start.age start.ages) task.sends }
+    requires kinds { task.kinds ≡ start.kinds }
+    ensures setup { IfOk result (λ r. r.silo.history.setup ≡ setup_of start.tenants start.age start.ages) }
+    ensures ready { IfOk result (λ r. (now : LogView) → (now.acts ≡ Some [] → now.begun ≡ option_map (λ bytes. bytes.items) task.log)
+        → IsReady (version_of L.logic start.kinds) task.sends now r.silo.history r.silo.stopped r.silo.keeps r.task) }
     ensures fault { IfErr result (λ why. why ≡ DataFault.Failed Cause.Memory) }
 {
-    let task = LogTask {
-        words,
-        kinds: opening.start.kinds,
-        number: opening.number,
-        sends: opening.sends,
-        sync: false,
-        log,
-    };
-    let silo = dropping_silo(alloc, opening.start)?;
-    Ok(ReadySilo { silo, task })
+    match dropping_silo(alloc, start) {
+        Ok(silo) => Ok(ReadySilo { silo, task }),
+        Err(AllocError) => {
+            drop(task);
+            Err(DataFault::Failed(Cause::Memory))
+        }
+    }
 }
 
 /// The silo, with a new log in the place of the one that is there.
 fn begun_anew<L: GrainLogic + Drop, F: DataFiles>(
     alloc: Global,
     files: &mut F,
-    silo: AnsweringSilo<MemoryStorage, L>,
-    task: LogTask,
+    ready: ReadySilo<L>,
 ) -> Result<ReadySilo<L>, DataFault>
-    ensures silo { IfOk result (λ r. r.silo ≡ silo) }
-    ensures task { IfOk result (λ r. r.task.words ≡ task.words × (r.task.kinds ≡ task.kinds) × (r.task.sends ≡ task.sends)
-        × (option_map (λ bytes. bytes.items) r.task.log ≡ Some (head_text task.words.items (spelled task.number)))) }
+    ensures silo { IfOk result (λ r. r.silo ≡ ready.silo) }
+    ensures task { IfOk result (λ r. r.task.words ≡ ready.task.words × (r.task.kinds ≡ ready.task.kinds)
+        × (r.task.sends ≡ ready.task.sends) × (option_map (λ bytes. bytes.items) r.task.log
+        ≡ Some (head_text ready.task.words.items (spelled ready.task.number)))) }
     ensures begun { OnOk result (Begins (F.acts files.old) (F.acts files.new) (F.begun files.new)
-        (head_text task.words.items (spelled task.number))) }
+        (head_text ready.task.words.items (spelled ready.task.number))) }
     ensures err { OnErr result (MayBegin (F.acts files.old) (F.begun files.old) (F.acts files.new) (F.begun files.new)
-        (head_text task.words.items (spelled task.number))) }
+        (head_text ready.task.words.items (spelled ready.task.number))) }
     ensures acts { F.acts files.new ≡ F.acts files.old }
     ensures past { F.past files.new ≡ F.past files.old }
     ensures fault { IfErr result (λ why. (why ≡ DataFault.Failed Cause.Memory)
         ⊎ ((why ≡ DataFault.Failed Cause.Write) × (F.failed files.new ≡ true))) }
 {
-    let head = match new_log(alloc, files, task.words.as_slice(), task.number) {
-        Ok(head) => head,
-        Err(why) => return Err(why),
-    };
-    let LogTask {
-        words,
-        kinds,
-        number,
-        sends,
-        sync,
-        log,
-    } = task;
-    drop(log);
-    Ok(ReadySilo {
-        silo,
-        task: LogTask {
-            words,
-            kinds,
-            number,
-            sends,
-            sync,
-            log: Some(head),
-        },
-    })
+    let ReadySilo { silo, mut task } = ready;
+    match new_log(alloc, files, task.words.as_slice(), task.number) {
+        Ok(head) => {
+            task.log = Some(head);
+            Ok(ReadySilo { silo, task })
+        }
+        Err(why) => {
+            drop(silo);
+            drop(task);
+            Err(why)
+        }
+    }
 }
 
-/// The silo that goes on from what the checkpoint says.
+/// A silo that goes on from what a checkpoint says, with this task.
+fn resumed_ready<L: GrainLogic + Drop>(
+    alloc: Global,
+    start: Start<L>,
+    task: LogTask,
+    saved: Saved<'_>,
+) -> Result<ReadySilo<L>, DataFault>
+    requires ascending { IsAscending saved.rows.items }
+    requires versioned { AreVersioned saved.rows.items }
+    ensures task { IfOk result (λ r. r.task ≡ task) }
+    ensures setup { IfOk result (λ r. r.silo.history.setup ≡ (saved_in saved.entry).setup) }
+    ensures opened { IfOk result (λ r. r.silo.history.whole ≡ opening r.silo.history.setup) }
+    ensures ready { IfOk result (λ r. r.silo.stopped ≡ false) }
+    ensures drops { IfOk result (λ r. r.silo.keeps ≡ false) }
+    ensures fault { IfErr result (λ why. (why ≡ DataFault.Failed Cause.Memory)
+        ⊎ ((why ≡ DataFault.NoCheckpoint) × (MayResume L.logic saved.entry.kept → ⊥))) }
+{
+    match saved_silo(alloc, start, saved) {
+        Ok(Some(silo)) => Ok(ReadySilo { silo, task }),
+        Ok(None) => {
+            drop(task);
+            Err(DataFault::NoCheckpoint)
+        }
+        Err(AllocError) => {
+            drop(task);
+            Err(DataFault::Failed(Cause::Memory))
+        }
+    }
+}
+
+/// What the checkpoint says.
+fn read_point(alloc: Global, point: &[u8]) -> Result<Saved<'_>, DataFault>
+    ensures says { IfOk result (λ saved. HasText point.now (saved_in saved)) }
+    ensures rows { IfOk result (λ saved. IsAscending saved.rows.items × AreVersioned saved.rows.items) }
+    ensures fault { IfErr result (FailsToRead point.now) }
+{
+    match read_saved(alloc, point) {
+        Ok(saved) => Ok(saved),
+        Err(CheckpointFault::NoCheckpoint) => Err(DataFault::NoCheckpoint),
+        Err(CheckpointFault::Memory) => Err(DataFault::Failed(Cause::Memory)),
+    }
+}
+
+/// What follows from a checkpoint and from the log that stands beside it.
+#[derive(Clone, Copy)]
+enum Going {
+    /// The checkpoint has other words.
+    Reworded,
+    /// The log goes on from it.
+    On,
+    /// The log is the one whose place the checkpoint takes, so that a new one is begun.
+    Anew,
+}
+
+/// What follows from the checkpoint and from the task's log.
+fn going_of(alloc: Global, saved: &Saved<'_>, task: &LogTask) -> Result<Going, DataFault>
+    ensures other { result ≡ Ok Going.Reworded → SaysWords (saved_in saved.now) task.now.kinds task.now.sends task.now.words.items → ⊥ }
+    ensures on { result ≡ Ok Going.On → SaysWords (saved_in saved.now) task.now.kinds task.now.sends task.now.words.items
+        × HasLog task.now.words.items (spelled task.now.number) (option_map (λ bytes. bytes.items) task.now.log) }
+    ensures anew { result ≡ Ok Going.Anew → SaysWords (saved_in saved.now) task.now.kinds task.now.sends task.now.words.items
+        × ((before : List ℕ) × HasLog before (saved_in saved.now).follows (option_map (λ bytes. bytes.items) task.now.log)) }
+    ensures fault { IfErr result (CantGoOn task.now.words.items (spelled task.now.number) (saved_in saved.now).follows
+        (option_map (λ bytes. bytes.items) task.now.log)) }
+{
+    let words = task.words.as_slice();
+    if !says_words(alloc, saved, task.kinds, task.sends, words)? {
+        return Ok(Going::Reworded);
+    }
+    let Some(log) = &task.log else {
+        return Err(DataFault::NoLog);
+    };
+    if is_own_log(words, task.number, saved.follows, log.as_slice())? {
+        Ok(Going::On)
+    } else {
+        Ok(Going::Anew)
+    }
+}
+
+/// The silo that goes on from what the checkpoint says. `task` has the number of the log that goes on from it, and the bytes of the one
+/// that is there.
 fn saved_ready<L: GrainLogic + Drop, F: DataFiles>(
     alloc: Global,
     files: &mut F,
-    opening: DataOpening<L>,
-    words: Vec<u8>,
-    log: Option<Vec<u8>>,
+    start: Start<L>,
+    task: LogTask,
     point: &[u8],
 ) -> Result<ReadySilo<L>, DataFault>
-    requires { words.items ≡ head_words (starting (version_of L.logic opening.start.kinds) opening.start.tenants opening.start.age
-        opening.start.ages) opening.sends }
+    requires words { task.words.items
+        ≡ head_words (starting (version_of L.logic start.kinds) start.tenants start.age start.ages) task.sends }
+    requires kinds { task.kinds ≡ start.kinds }
+    requires number { task.number ≡ sum_in point.now }
     ensures ready { IfOk result (λ r. (old : LogView) → HasFound old (log_view F.begun F.acts F.past F.failed files.old)
-        (option_map (λ bytes. bytes.items) log) (Some point.now)
-        → IsReady (version_of L.logic opening.start.kinds) opening.sends
+        (option_map (λ bytes. bytes.items) task.log) (Some point.now)
+        → IsReady (version_of L.logic start.kinds) task.sends
         (log_view F.begun F.acts F.past F.failed files.new) r.silo.history r.silo.stopped r.silo.keeps r.task) }
     ensures opens { IfOk result (λ r. (old : LogView) → HasFound old (log_view F.begun F.acts F.past F.failed files.old)
-        (option_map (λ bytes. bytes.items) log) (Some point.now)
-        → OpensAt (starting (version_of L.logic opening.start.kinds) opening.start.tenants opening.start.age
-        opening.start.ages) opening.sends old
-        (log_view F.begun F.acts F.past F.failed files.new) (started (version_of L.logic opening.start.kinds) r.silo.history.setup)) }
+        (option_map (λ bytes. bytes.items) task.log) (Some point.now)
+        → OpensAt (starting (version_of L.logic start.kinds) start.tenants start.age start.ages) task.sends old
+        (log_view F.begun F.acts F.past F.failed files.new) (started (version_of L.logic start.kinds) r.silo.history.setup)) }
     ensures fault { IfErr result (λ why. (old : LogView) → HasFound old (log_view F.begun F.acts F.past F.failed files.old)
-        (option_map (λ bytes. bytes.items) log) (Some point.now)
-        → OpeningFailsBy (starting (version_of L.logic opening.start.kinds) opening.start.tenants opening.start.age
-        opening.start.ages) opening.sends (since old (log_view F.begun F.acts F.past F.failed files.new)) why) }
+        (option_map (λ bytes. bytes.items) task.log) (Some point.now)
+        → OpeningFailsBy (starting (version_of L.logic start.kinds) start.tenants start.age start.ages) task.sends
+        (since old (log_view F.begun F.acts F.past F.failed files.new)) why) }
     ensures lasts { OnErr result ((old : LogView) → HasFound old (log_view F.begun F.acts F.past F.failed files.old)
-        (option_map (λ bytes. bytes.items) log) (Some point.now)
-        → FolderLasts (starting (version_of L.logic opening.start.kinds) opening.start.tenants opening.start.age
-        opening.start.ages) opening.sends (since old (log_view F.begun F.acts F.past F.failed files.new))) }
+        (option_map (λ bytes. bytes.items) task.log) (Some point.now)
+        → FolderLasts (starting (version_of L.logic start.kinds) start.tenants start.age start.ages) task.sends
+        (since old (log_view F.begun F.acts F.past F.failed files.new))) }
 {
-    let saved = match read_saved(alloc, point) {
+    let saved = match read_point(alloc, point) {
         Ok(saved) => saved,
-        Err(CheckpointFault::NoCheckpoint) => return Err(DataFault::NoCheckpoint),
-        Err(CheckpointFault::Memory) => return Err(DataFault::Failed(Cause::Memory)),
+        Err(why) => {
+            drop(start);
+            drop(task);
+            return Err(why);
+        }
     };
-    let (kinds, sends, number) = (opening.start.kinds, opening.sends, sum_of(point));
-    if !says_words(alloc, &saved, kinds, sends, words.as_slice())? {
-        let task = LogTask {
-            words,
-            kinds,
-            number,
-            sends,
-            sync: false,
-            log,
-        };
-        return reworded_ready(alloc, files, opening.start, task, saved);
+    match going_of(alloc, &saved, &task) {
+        Ok(Going::Reworded) => reworded_ready(alloc, files, start, task, saved),
+        Ok(Going::On) => resumed_ready(alloc, start, task, saved),
+        Ok(Going::Anew) => match resumed_ready(alloc, start, task, saved) {
+            Ok(ready) => begun_anew(alloc, files, ready),
+            Err(why) => Err(why),
+        },
+        Err(why) => {
+            drop(start);
+            drop(task);
+            drop(saved);
+            Err(why)
+        }
     }
-    let Some(found) = log else {
-        return Err(DataFault::NoLog);
-    };
-    let is_own = is_own_log(words.as_slice(), number, saved.follows, found.as_slice())?;
-    let Some(silo) = saved_silo(alloc, opening.start, saved)? else {
-        return Err(DataFault::NoCheckpoint);
-    };
-    let task = LogTask {
-        words,
-        kinds,
-        number,
-        sends,
-        sync: false,
-        log: Some(found),
-    };
-    if is_own {
-        return Ok(ReadySilo { silo, task });
-    }
-    begun_anew(alloc, files, silo, task)
 }
 
 /// The silo that goes on with what the folder has, which is open.
@@ -343,9 +394,25 @@ pub(crate) fn ready_silo<L: GrainLogic + Drop, F: DataFiles>(
         → FolderLasts (starting (version_of L.logic opening.start.kinds) opening.start.tenants opening.start.age
         opening.start.ages) opening.sends (since old (log_view F.begun F.acts F.past F.failed files.new))) }
 {
+    let DataOpening {
+        start,
+        number,
+        sends,
+    } = opening;
     let Found { log, point } = found;
+    let mut task = LogTask {
+        words,
+        kinds: start.kinds,
+        number,
+        sends,
+        sync: false,
+        log,
+    };
     match point {
-        None => new_ready(alloc, opening, words, log),
-        Some(point) => saved_ready(alloc, files, opening, words, log, point.as_slice()),
+        None => new_ready(alloc, start, task),
+        Some(point) => {
+            task.number = sum_of(point.as_slice());
+            saved_ready(alloc, files, start, task, point.as_slice())
+        }
     }
 }

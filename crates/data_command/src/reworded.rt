@@ -180,12 +180,36 @@ pub(crate) fn reworded_ready<L: GrainLogic + Drop, F: DataFiles>(
         (λ old. FolderLasts (starting (version_of L.logic start.kinds) start.tenants start.age start.ages) task.sends
         (since old (log_view F.begun F.acts F.past F.failed files.new)))) }
 {
-    may_change(alloc, &start.tenants, &task, &saved)?;
-    let Some(silo) = carried_silo(alloc, start, saved)? else {
-        return Err(DataFault::NoCheckpoint);
+    match may_change(alloc, &start.tenants, &task, &saved) {
+        Ok(()) => {}
+        Err(why) => {
+            drop(start);
+            drop(task);
+            drop(saved);
+            return Err(why);
+        }
+    }
+    let silo = match carried_silo(alloc, start, saved) {
+        Ok(Some(silo)) => silo,
+        Ok(None) => {
+            drop(task);
+            return Err(DataFault::NoCheckpoint);
+        }
+        Err(AllocError) => {
+            drop(task);
+            return Err(DataFault::Failed(Cause::Memory));
+        }
     };
-    let head = begin_words(alloc, files, &silo, &task)?;
-    let mut task = task;
-    task.log = Some(head);
-    Ok(ReadySilo { silo, task })
+    match begin_words(alloc, files, &silo, &task) {
+        Ok(head) => {
+            let mut task = task;
+            task.log = Some(head);
+            Ok(ReadySilo { silo, task })
+        }
+        Err(why) => {
+            drop(silo);
+            drop(task);
+            Err(why)
+        }
+    }
 }

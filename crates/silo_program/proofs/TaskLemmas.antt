@@ -8,7 +8,7 @@ use Rattle.data_command.specs.Texts.{IsDataFault}
 use Rattle.data_command.specs.declared.fault.DataFault.{DataFault}
 use Rattle.data_command.specs.declared.fault.DataFault.TheVariants as data_fault
 use Rattle.silo_program.specs.Ends.{AnswersInFolder, AskForFolder, AskForJournal, AskForKeeping, EndsAs, EndsServing, IsAnsweringFault, IsFaultOf, IsFolderFault}
-use Rattle.silo_program.specs.Ends.{IsNamingFault, IsServingFault, IsStreamFault, LeavesFiles, RefusesFolder, RefusesLog, SaysFault, SaysMisfit, ServesInput, ShowsText}
+use Rattle.silo_program.specs.Ends.{IsNamingFault, IsServingFault, IsStreamFault, LeavesFiles, RefusesData, SaysFault, SaysMisfit, ServesInput, ShowsText}
 use Rattle.command_parts.specs.Files.{FileClaims}
 use Rattle.command_parts.specs.Setups.{Start}
 use Rattle.command_parts.specs.Streams.{IsUnbegun}
@@ -228,15 +228,10 @@ module _ (words : List Text) (files : FileClaims) (log : LogClaims) (from left :
     }
 
     -- no silo goes on with it, and this is said
-    refused_by : AskForData words age given sends folder sync arguments → NameTenants arguments tenants × NamesAges given ages → (reading : Reading) (why : DataFault) (text : Text)
-        → FolderFailsBy (program_start tenants age ages) sends log why from left reading before after → SaysFault why text → RefusesLog words log text from left reading before after
-    refused_by asked named reading why text fails said =
-        record { tenants = tenants; age = age; ages = ages; sends = sends; folder = folder; sync = sync; asked = keeping asked named; why = why; refused = fails; said = said }
-
-    -- the words don't fit it
-    misfits : AskForData words age given sends folder sync arguments → NameTenants arguments tenants × NamesAges given ages → (reading : Reading) (why : DataFault) (text : Text)
-        → FolderFailsBy (program_start tenants age ages) sends log why from left reading before after → SaysMisfit why text → RefusesFolder words log text from left reading before after
-    misfits asked named reading why text fails said =
+    refused_by : (Says : DataFault → Text → Type 0) → AskForData words age given sends folder sync arguments → NameTenants arguments tenants × NamesAges given ages
+        → (reading : Reading) (why : DataFault) (text : Text) → FolderFailsBy (program_start tenants age ages) sends log why from left reading before after → Says why text
+        → RefusesData Says words log text from left reading before after
+    refused_by Says asked named reading why text fails said =
         record { tenants = tenants; age = age; ages = ages; sends = sends; folder = folder; sync = sync; asked = keeping asked named; why = why; refused = fails; said = said }
 
     -- it wasn't, and this is said
@@ -246,23 +241,23 @@ module _ (words : List Text) (files : FileClaims) (log : LogClaims) (from left :
         (inr (record { tenants = tenants; age = age; ages = ages; sends = sends; folder = folder; sync = sync; asked = keeping asked named; failed = fails }))
     folder_failed reading writing asked named data_fault.OtherWords (fault.Failed why) is fails = lacks_memory reading writing why is (unbegun reading data_fault.OtherWords (λ own view r. r) fails)
     folder_failed reading writing asked named data_fault.OtherWords (fault.Refused text) is fails =
-        inr (misfits asked named reading data_fault.OtherWords (string_bytes text) fails is)
+        inr (refused_by SaysMisfit asked named reading data_fault.OtherWords (string_bytes text) fails is)
     folder_failed reading writing asked named data_fault.OtherWords (fault.NoJournal text) is fails = absurd is
     folder_failed reading writing asked named (data_fault.HasTenant name) (fault.Failed why) is fails = lacks_memory reading writing why is (unbegun reading (data_fault.HasTenant name) (λ own view r. r) fails)
-    folder_failed reading writing asked named (data_fault.HasTenant name) (fault.Refused text) is fails = inr (misfits asked named reading (data_fault.HasTenant name) (string_bytes text) fails is)
+    folder_failed reading writing asked named (data_fault.HasTenant name) (fault.Refused text) is fails = inr (refused_by SaysMisfit asked named reading (data_fault.HasTenant name) (string_bytes text) fails is)
     folder_failed reading writing asked named (data_fault.HasTenant name) (fault.NoJournal text) is fails = absurd is
     folder_failed reading writing asked named data_fault.NoCheckpoint (fault.Failed why) is fails = lacks_memory reading writing why is (unbegun reading data_fault.NoCheckpoint (λ own view r. r) fails)
     folder_failed reading writing asked named data_fault.NoCheckpoint (fault.Refused text) is fails = absurd is
-    folder_failed reading writing asked named data_fault.NoCheckpoint (fault.NoJournal text) is fails = refused_by asked named reading data_fault.NoCheckpoint (string_bytes text) fails is
+    folder_failed reading writing asked named data_fault.NoCheckpoint (fault.NoJournal text) is fails = refused_by SaysFault asked named reading data_fault.NoCheckpoint (string_bytes text) fails is
     folder_failed reading writing asked named data_fault.NoLog (fault.Failed why) is fails = lacks_memory reading writing why is (unbegun reading data_fault.NoLog (λ own view r. r) fails)
     folder_failed reading writing asked named data_fault.NoLog (fault.Refused text) is fails = absurd is
-    folder_failed reading writing asked named data_fault.NoLog (fault.NoJournal text) is fails = refused_by asked named reading data_fault.NoLog (string_bytes text) fails is
+    folder_failed reading writing asked named data_fault.NoLog (fault.NoJournal text) is fails = refused_by SaysFault asked named reading data_fault.NoLog (string_bytes text) fails is
     folder_failed reading writing asked named (data_fault.Refused line) (fault.Failed why) is fails = lacks_memory reading writing why is (unbegun reading (data_fault.Refused line) (λ own view r. r) fails)
     folder_failed reading writing asked named (data_fault.Refused line) (fault.Refused text) is fails = absurd is
-    folder_failed reading writing asked named (data_fault.Refused line) (fault.NoJournal text) is fails = refused_by asked named reading (data_fault.Refused line) (string_bytes text) fails is
+    folder_failed reading writing asked named (data_fault.Refused line) (fault.NoJournal text) is fails = refused_by SaysFault asked named reading (data_fault.Refused line) (string_bytes text) fails is
     folder_failed reading writing asked named (data_fault.Otherwise line) (fault.Failed why) is fails = lacks_memory reading writing why is (unbegun reading (data_fault.Otherwise line) (λ own view r. r) fails)
     folder_failed reading writing asked named (data_fault.Otherwise line) (fault.Refused text) is fails = absurd is
-    folder_failed reading writing asked named (data_fault.Otherwise line) (fault.NoJournal text) is fails = refused_by asked named reading (data_fault.Otherwise line) (string_bytes text) fails is
+    folder_failed reading writing asked named (data_fault.Otherwise line) (fault.NoJournal text) is fails = refused_by SaysFault asked named reading (data_fault.Otherwise line) (string_bytes text) fails is
 
 -- ---- how lines that were served end
 

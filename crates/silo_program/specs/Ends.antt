@@ -289,21 +289,6 @@ SaysMisfit data_fault.OtherWords text = text ≡ other_words_text
 SaysMisfit (data_fault.HasTenant name) text = text ≡ has_tenant_text name.bytes
 SaysMisfit why text = ⊥
 
--- The words name tenants and a folder whose checkpoint or log has other words, and can't change to these; and that was said. Nothing was
--- read and nothing written, and both are as they were.
-pub record RefusesFolder (words : List Text) (log : LogClaims) (text : Text) (from left : Option (List ℕ)) (reading : Reading)
-    (before after : Option (List ℕ)) : Type 0 where
-  pub tenants : Table
-  pub age : ℕ
-  pub ages : Ages
-  pub sends : ℕ
-  pub folder : Text
-  pub sync : Bool
-  pub asked : AskForKeeping words tenants age ages sends folder sync
-  pub why : DataFault
-  pub refused : FolderFailsBy (program_start tenants age ages) sends log why from left reading before after
-  pub said : SaysMisfit why text
-
 -- what is said of a folder with which no silo goes on under the same words
 abbrev pub SaysFault : DataFault → Text → Type 0
 SaysFault data_fault.NoCheckpoint text = text ≡ no_checkpoint_text
@@ -312,10 +297,10 @@ SaysFault (data_fault.Refused line) text = text ≡ refused_line_text line
 SaysFault (data_fault.Otherwise line) text = text ≡ otherwise_text line
 SaysFault why text = ⊥
 
--- The words name tenants and a folder whose checkpoint is refused, or which lacks its log, or in whose log a line is refused, or answered
--- otherwise than it was; and that was said. Nothing was read and nothing written, and the folder is as it was.
-pub record RefusesLog (words : List Text) (log : LogClaims) (text : Text) (from left : Option (List ℕ)) (reading : Reading)
-    (before after : Option (List ℕ)) : Type 0 where
+-- The words name tenants and a folder with which no silo goes on, and this was said of it. Nothing was read and nothing written, and the
+-- folder is as it was.
+pub record RefusesData (Says : DataFault → Text → Type 0) (words : List Text) (log : LogClaims) (text : Text) (from left : Option (List ℕ))
+    (reading : Reading) (before after : Option (List ℕ)) : Type 0 where
   pub tenants : Table
   pub age : ℕ
   pub ages : Ages
@@ -325,7 +310,17 @@ pub record RefusesLog (words : List Text) (log : LogClaims) (text : Text) (from 
   pub asked : AskForKeeping words tenants age ages sends folder sync
   pub why : DataFault
   pub refused : FolderFailsBy (program_start tenants age ages) sends log why from left reading before after
-  pub said : SaysFault why text
+  pub said : Says why text
+
+-- Its checkpoint or its log has other words, and can't change to these.
+abbrev pub RefusesFolder : List Text → LogClaims → Text → Option (List ℕ) → Option (List ℕ) → Reading → Option (List ℕ) → Option (List ℕ)
+    → Type 0
+RefusesFolder = RefusesData SaysMisfit
+
+-- Its checkpoint is refused, or it lacks its log, or a line of that is refused, or answered otherwise than it was.
+abbrev pub RefusesLog : List Text → LogClaims → Text → Option (List ℕ) → Option (List ℕ) → Reading → Option (List ℕ) → Option (List ℕ)
+    → Type 0
+RefusesLog = RefusesData SaysFault
 
 -- The words name tenants and a folder. If replies are to wait for its log: at each moment, whatever a crash leaves of the log, all that was
 -- told is the beginning of what it answers.

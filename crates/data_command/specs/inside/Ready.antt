@@ -1,11 +1,12 @@
 -- What is known of a silo that goes on with a folder, and of the log that stands beside a checkpoint.
-use Rattle.std.specs.Prelude.{◌≡◌, ◌≢◌, ◌⊎◌, ◌++◌, ℕ, Bool, false, List, [], length, Option, Some, option_map}
+use Rattle.std.specs.Prelude.{◌≡◌, ◌≢◌, ◌⊎◌, ◌++◌, ℕ, Bool, false, List, [], length, Option, None, Some, option_map}
 use Rattle.silo_model.specs.Opening.{opening}
 use Rattle.silo_core.specs.History.{History}
 use Rattle.log_text.specs.Head.{IsNumber, form_line, head_text}
 use Rattle.log_text.specs.Lines.{whole_lines}
-use Rattle.silo_checkpoint.specs.Saved.{Saved}
+use Rattle.silo_checkpoint.specs.Saved.{HasText, Saved}
 use Rattle.command_parts.specs.Setups.{Version, started}
+use Rattle.command_parts.specs.declared.failure.Cause.TheVariants as cause
 use Rattle.data_command.specs.Data.{IsFound, IsFoundPoint, LeavesLog, LogView, since}
 use Rattle.data_command.specs.Words.{head_words, words_by}
 use Rattle.log_text.specs.Head.{words_text}
@@ -40,6 +41,10 @@ SaysWords saved kinds sends words =
 abbrev pub HasNumber : List ℕ → List ℕ → List ℕ → Type 0
 HasNumber words number log = (rest : List ℕ) × (log ≡ head_text words number ++ rest)
 
+-- the log that is there has that number
+abbrev pub HasLog : List ℕ → List ℕ → Option (List ℕ) → Type 0
+HasLog words number log = (bytes : List ℕ) × (log ≡ Some bytes) × HasNumber words number bytes
+
 -- The bytes are those of a log with another number than these two.
 pub record HasAnother (words own old log : List ℕ) (line : ℕ) : Type 0 where
   pub number : List ℕ
@@ -58,3 +63,16 @@ IsWrongLog words own old log data_fault.OtherWords =
 IsWrongLog words own old log (data_fault.Refused line) =
     (((rest : List ℕ) → log ≡ form_line ++ rest → ⊥) × (line ≡ 1)) ⊎ HasAnother words own old log line
 IsWrongLog words own old log why = ⊥
+
+-- why a checkpoint isn't read
+abbrev pub FailsToRead : List ℕ → DataFault → Type 0
+FailsToRead point why =
+    (why ≡ data_fault.Failed cause.Memory)
+    ⊎ ((why ≡ data_fault.NoCheckpoint) × ((saved : Saved) → HasText point saved → ⊥))
+
+-- why no log with one of these two numbers stands beside a checkpoint of these words
+abbrev pub CantGoOn : List ℕ → List ℕ → List ℕ → Option (List ℕ) → DataFault → Type 0
+CantGoOn words own old log why =
+    (why ≡ data_fault.Failed cause.Memory)
+    ⊎ (((why ≡ data_fault.NoLog) × (log ≡ None))
+    ⊎ ((bytes : List ℕ) × (log ≡ Some bytes) × IsWrongLog words own old bytes why))

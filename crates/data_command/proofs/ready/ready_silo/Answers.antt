@@ -31,12 +31,12 @@ pub returns-in-Some-clause-ready : goal.returns-in-Some-clause-ready
 returns-in-Some-clause-ready g c =
     let now = log_view g.F.LogHost.begun g.F.LogHost.acts g.F.LogHost.past g.F.LogHost.failed c.args.files.now in
     let log = option_map (λ (bytes : Vec ℕ Global). bytes.items) c.args.found.log in
-    let point = ap (option_map (λ (bytes : Vec ℕ Global). bytes.items)) c.in-Some.is ∙ ap Some (sym c.as_slice.ensures.value) in
+    let point = ap (option_map (λ (bytes : Vec ℕ Global). bytes.items)) c.in-Some.is ∙ ap Some (sym c.as_slice-in-Some.ensures.value) in
     IfOk-weaker c.saved_ready.result _ _ (λ r so old f. so old (subst (λ (p : Option (List ℕ)). HasFound old now log p) point f)) c.saved_ready.ensures.ready
 
 pub returns-in-Some-clause-opens : goal.returns-in-Some-clause-opens
 returns-in-Some-clause-opens g c =
     let now = log_view g.F.LogHost.begun g.F.LogHost.acts g.F.LogHost.past g.F.LogHost.failed c.args.files.now in
     let log = option_map (λ (bytes : Vec ℕ Global). bytes.items) c.args.found.log in
-    let point = ap (option_map (λ (bytes : Vec ℕ Global). bytes.items)) c.in-Some.is ∙ ap Some (sym c.as_slice.ensures.value) in
+    let point = ap (option_map (λ (bytes : Vec ℕ Global). bytes.items)) c.in-Some.is ∙ ap Some (sym c.as_slice-in-Some.ensures.value) in
     IfOk-weaker c.saved_ready.result _ _ (λ r so old f. so old (subst (λ (p : Option (List ℕ)). HasFound old now log p) point f)) c.saved_ready.ensures.opens
