@@ -1,0 +1,7 @@
+pub mod Apart
+pub mod Changes
+pub mod Counts
+pub mod Lists
+pub mod Once
+pub mod Staying
+pub mod Tables

@@ -1,0 +1,4 @@
+pub mod Receipts
+pub mod Judgements
+pub mod Laws
+pub mod inside

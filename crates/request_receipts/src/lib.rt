@@ -1,0 +1,10 @@
+//! What is kept of a tenant's requests that act once: of each caller the greatest number that acted, and the replies that it hasn't seen.
+#![tactic(auto)]
+
+mod caller;
+pub mod laws;
+mod receipts;
+mod verdict;
+
+pub use receipts::TenantReceipts;
+pub use verdict::Verdict;
