@@ -1,5 +1,5 @@
 -- How many receipts there are, and how many bytes their lines have, once one more is kept.
-use Rattle.std.proofs.Common.{◌≡◌, ℕ, ◌+◌, List, [], ◌∷◌, ◌++◌, Option, Some, None, length, refl, sym, arith}
+use Rattle.std.proofs.Common.{◌≡◌, ℕ, ◌+◌, List, [], ◌∷◌, ◌++◌, Option, Some, None, length, is_some, false, refl, ap, sym, ◌∙◌, arith}
 use Rattle.std.specs.FinMap as finite
 use Rattle.std.specs.FinMap.{FinMap}
 use Rattle.std.proofs.lemmas.List.{length-append}
@@ -7,7 +7,7 @@ use Rattle.std.proofs.lemmas.List.Sums.{sum_by-append}
 use Rattle.finite_maps.proofs.Totals.{at, total, total-insert}
 use Rattle.grain_id.specs.Names.{text_cmp}
 use Rattle.grain_id.proofs.Order.{text_cmp_total}
-use Rattle.request_receipts.specs.Receipts.{Caller, Receipt, bytes_in, bytes_of_all, count_of_all, receipts_of, with_receipt}
+use Rattle.request_receipts.specs.Receipts.{Caller, Receipt, bytes_in, bytes_of_all, count_of_all, last_of, receipts_of, with_receipt}
 use Rattle.request_receipts.specs.inside.Tables.{IsCounted}
 use Rattle.request_receipts.proofs.Lists.{bytes_in-cons}
 
@@ -49,3 +49,24 @@ module _ (m : FinMap text_cmp Caller) (who : List ℕ) (number : ℕ) (line : Li
 
       weighed_more : bytes ≡ bytes_of_all m → bytes_of_all more ≡ bytes_of_all m + length line → bytes + length line ≡ bytes_of_all more
       weighed_more was now = omega arith
+
+-- one caller more
+pub one_caller_more : (m : FinMap text_cmp Caller) (who : List ℕ) (c : Caller) → finite.get m who ≡ None → (most count bytes : ℕ) → IsCounted most m count bytes
+    → IsCounted most (finite.insert m who c) (count + length c.receipts) (bytes + bytes_in c.receipts)
+one_caller_more m who c none most count bytes is = record {
+  few = is.few;
+  counted = added (λ (x : Caller). length x.receipts) count is.counted (total-insert text_cmp_total (λ (x : Caller). length x.receipts) m who c) (ap (at (λ (x : Caller). length x.receipts)) none);
+  weighed = added (λ (x : Caller). bytes_in x.receipts) bytes is.weighed (total-insert text_cmp_total (λ (x : Caller). bytes_in x.receipts) m who c) (ap (at (λ (x : Caller). bytes_in x.receipts)) none);
+}
+  where
+    added : (f : Caller → ℕ) (n : ℕ) → n ≡ total f m → total f (finite.insert m who c) + at f (finite.get m who) ≡ total f m + f c → at f (finite.get m who) ≡ 0 → n + f c ≡ total f (finite.insert m who c)
+    added f n was law nothing = omega arith
+
+-- nothing is kept of a caller that has no greatest number
+pub none_known : (o : Option Caller) → is_some (last_of o) ≡ false → o ≡ None
+none_known None e = refl
+none_known (Some c) e = absurd cc
+
+-- the same of what is the same
+pub counted_same : (most : ℕ) (m k : FinMap text_cmp Caller) (n i b j : ℕ) → k ≡ m → i ≡ n → j ≡ b → IsCounted most m n b → IsCounted most k i j
+counted_same most m k n i b j maps counts bytes is = record { few = is.few; counted = counts ∙ is.counted ∙ ap count_of_all (sym maps); weighed = bytes ∙ is.weighed ∙ ap bytes_of_all (sym maps) }

@@ -4,7 +4,7 @@ use Rattle.std.specs.Prelude.{nat_lt}
 use Rattle.std.proofs.lemmas.List.Sums.{sum_by-cons}
 use Rattle.request_receipts.specs.Receipts.{bytes_in, unseen, Receipt as Kept}
 use Rattle.request_receipts.specs.declared.caller.Receipt.{Receipt}
-use Rattle.request_receipts.specs.inside.Tables.{all_of, receipt_of}
+use Rattle.request_receipts.specs.Parts.{all_of, receipt_of}
 use Rattle.std.specs.Prelude.{length}
 
 -- the first receipt's bytes, and those of the others

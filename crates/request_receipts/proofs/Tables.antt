@@ -16,11 +16,12 @@ use Rattle.std.specs.declared.alloc.Global.{Global}
 use Rattle.std.specs.declared.string.String.{String}
 use Rattle.std.proofs.lemmas.Map.Text.{btree_map_updates_text}
 use Rattle.std.proofs.lemmas.List.{length-map}
-use Rattle.finite_maps.proofs.Ascending.{len-ascending}
+use Rattle.finite_maps.proofs.Ascending.{entries-ascending, len-ascending}
 use Rattle.finite_maps.proofs.Totals.{at, total, total-insert, total-none}
 use Rattle.grain_id.specs.Names.{same_text, text_cmp}
 use Rattle.grain_id.proofs.ByGrain.{text_alike}
 use Rattle.grain_id.proofs.Order.{same_text_decides, text_cmp_exact, text_cmp_total, ties_from_Decides}
+use Rattle.request_receipts.specs.Parts.{all_named}
 use Rattle.request_receipts.specs.Receipts.{Caller, unseen, without_seen}
 use Rattle.request_receipts.specs.inside.Tables.{Table, by_bytes}
 
@@ -84,3 +85,7 @@ named (e ∷ es) ascending = (first es ascending.0, named es ascending.1)
 -- as many callers as entries
 pub len-by_bytes : (m : Table) → IsOrdered string_cmp m → map.len (by_bytes m) ≡ btree_map_len m
 len-by_bytes m ordered = len-ascending text_cmp_total text_cmp_exact _ (named m.entries ordered) ∙ length-map m.entries _
+
+-- the callers, as they stand
+pub entries-by_bytes : (m : Table) → IsOrdered string_cmp m → map.entries (by_bytes m) ≡ all_named m.entries
+entries-by_bytes m ordered = entries-ascending text_cmp_total text_cmp_exact (all_named m.entries) (named m.entries ordered)

@@ -1,4 +1,5 @@
 pub mod Receipts
 pub mod Judgements
+pub mod Parts
 pub mod Laws
 pub mod inside

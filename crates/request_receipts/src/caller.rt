@@ -1,9 +1,9 @@
 //! What is kept of one caller.
 
-ghost use Rattle.std.specs.Prelude.{◌≡◌, ◌+◌, ◌<◌, ◌≤◌, ◌++◌, ◌∷◌, ◌^◌, [], IfOk, OnOk, OnErr, length};
+ghost use Rattle.std.specs.Prelude.{◌≡◌, ◌+◌, ◌<◌, ◌≤◌, ◌++◌, ◌∷◌, ◌^◌, [], IfOk, IfSome, OnOk, OnErr, length};
 ghost use Rattle.std.specs.Option.{option_copied};
 ghost use Rattle.request_receipts.specs.Receipts.{bytes_in, bytes_of_caller, greatest_number, is_full, line_of, unseen};
-ghost use Rattle.request_receipts.specs.inside.Tables.{all_of};
+ghost use Rattle.request_receipts.specs.Parts.{all_of};
 
 use std::alloc::{AllocError, Global};
 use std::marker::Model;
@@ -23,7 +23,7 @@ pub struct Receipt {
 
 /// How many receipts were dropped, and how many bytes their lines had.
 #[derive(Clone, Copy)]
-pub struct Freed {
+pub(crate) struct Freed {
     pub count: u64,
     pub bytes: u64,
 }
@@ -42,7 +42,7 @@ impl Model for CallerReceipts {
     ghost use Rattle.std.specs.Coded.{codes};
     ghost use Rattle.request_receipts.specs.Receipts as kept;
     ghost use Rattle.request_receipts.specs.Receipts.{bytes_in, greatest_number};
-    ghost use Rattle.request_receipts.specs.inside.Tables.{all_of};
+    ghost use Rattle.request_receipts.specs.Parts.{all_of};
 
     ghost Value = { kept.Caller };
 
@@ -55,7 +55,11 @@ impl Model for CallerReceipts {
 
 impl CallerReceipts {
     /// A number acted, the first of its caller, and the line answered it.
-    pub fn first(alloc: Global, number: u64, line: &[u8]) -> Result<CallerReceipts, AllocError>
+    pub(crate) fn first(
+        alloc: Global,
+        number: u64,
+        line: &[u8],
+    ) -> Result<CallerReceipts, AllocError>
         requires { number ≤ greatest_number }
         ensures { IfOk result (λ c. c ≡ record { last = number; receipts = (number, line.now) ∷ [] }) }
     {
@@ -80,21 +84,55 @@ impl CallerReceipts {
     }
 
     /// The line of the number's reply, if it has a receipt.
-    pub fn line_of(&self, number: u64) -> Option<&[u8]>
+    pub(crate) fn line_of(&self, number: u64) -> Option<&[u8]>
         ensures { option_copied result ≡ line_of number self.now.receipts }
     {
         line_in(self.receipts.as_slice(), number)
     }
 
+    /// The receipts, in the order in which they came.
+    pub fn receipts(&self) -> &[Receipt]
+        ensures { all_of result.now ≡ self.now.receipts }
+    {
+        self.receipts.as_slice()
+    }
+
+    /// What was kept of a caller, unless the lines are longer than can be counted.
+    pub(crate) fn restored(last: u64, receipts: Vec<Receipt>) -> Option<CallerReceipts>
+        requires { last ≤ greatest_number }
+        ensures { IfSome result (λ c. c ≡ record { last = last; receipts = all_of receipts.items }) }
+    {
+        let bytes = weigh(receipts.as_slice())?;
+        Some(CallerReceipts {
+            last,
+            receipts,
+            bytes,
+        })
+    }
+
+    /// How many receipts there are.
+    pub(crate) fn count(&self) -> u64
+        ensures { result ≡ length self.now.receipts }
+    {
+        self.receipts.len() as u64
+    }
+
+    /// How many bytes their lines have.
+    pub(crate) fn bytes(&self) -> u64
+        ensures { result ≡ bytes_in self.now.receipts }
+    {
+        self.bytes
+    }
+
     /// Whether there is no room for one more receipt.
-    pub fn is_full(&self) -> bool
+    pub(crate) fn is_full(&self) -> bool
         ensures { result ≡ is_full self.now.receipts }
     {
         MOST_OF_CALLER <= self.receipts.len() as u64 || BYTES_OF_CALLER <= self.bytes
     }
 
     /// Drops the receipts up to that number.
-    pub fn drop_seen(&mut self, number: u64) -> Freed
+    pub(crate) fn drop_seen(&mut self, number: u64) -> Freed
         ensures left { self.new ≡ record self.old { receipts = unseen number self.old.receipts } }
         ensures count { length self.new.receipts + result.count ≡ length self.old.receipts }
         ensures bytes { bytes_in self.new.receipts + result.bytes ≡ bytes_in self.old.receipts }
@@ -115,7 +153,7 @@ impl CallerReceipts {
     /// # Errors
     ///
     /// Out of memory: nothing changed.
-    pub fn keep(&mut self, alloc: Global, number: u64, line: &[u8]) -> Result<(), AllocError>
+    pub(crate) fn keep(&mut self, alloc: Global, number: u64, line: &[u8]) -> Result<(), AllocError>
         requires number { number ≤ greatest_number }
         requires room { bytes_in self.old.receipts < bytes_of_caller }
         ensures kept { OnOk result (self.new ≡ record { last = number; receipts = self.old.receipts ++ (number, line.now) ∷ [] }) }
@@ -162,4 +200,15 @@ fn retain_unseen(receipts: &mut Vec<Receipt>, number: u64)
     ensures lighter { bytes_in (all_of receipts.new.items) ≤ bytes_in (all_of receipts.old.items) }
 {
     receipts.retain(|receipt| number < receipt.number);
+}
+
+/// How many bytes the lines have, unless the sum doesn't fit.
+fn weigh(receipts: &[Receipt]) -> Option<u64>
+    ensures { IfSome result (λ bytes. bytes ≡ bytes_in (all_of receipts.now)) }
+{
+    let mut bytes: u64 = 0;
+    'receipts: for receipt in receipts {
+        bytes = bytes.checked_add(receipt.line.len() as u64)?;
+    }
+    Some(bytes)
 }

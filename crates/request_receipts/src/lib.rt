@@ -4,7 +4,10 @@
 mod caller;
 pub mod laws;
 mod receipts;
+#[cfg(test)]
+mod tests;
 mod verdict;
 
+pub use caller::{CallerReceipts, Receipt};
 pub use receipts::TenantReceipts;
 pub use verdict::Verdict;

@@ -1,17 +1,18 @@
 //! What is kept of a tenant's callers.
 
-ghost use Rattle.std.specs.Prelude.{◌≡◌, ◌+◌, ◌<◌, ◌≤◌, IfOk, IfSome, OnOk, OnErr, nat_le, if◌then◌else◌};
+ghost use Rattle.std.specs.Prelude.{◌≡◌, ◌+◌, ◌<◌, ◌≤◌, IfOk, IfSome, OnOk, OnErr, nat_le, string_bytes, if◌then◌else◌};
 ghost use Rattle.std.specs.FinMap as finite;
 ghost use Rattle.std.specs.Option.{option_copied};
 ghost use Rattle.request_receipts.specs.Judgements.{acts, judged, judgement, judgement_of, not_seen_of_tenant};
 ghost use Rattle.request_receipts.specs.Receipts.{bytes_in, bytes_of_all, bytes_of_caller, count_of_all, greatest_number, is_tenant_full};
 ghost use Rattle.request_receipts.specs.Receipts.{kept, last_of, most_of_tenant, none_kept, receipts_of, saw, with_receipt, without_seen};
+ghost use Rattle.request_receipts.specs.Parts.{all_named, all_of, with_caller};
 ghost use Rattle.request_receipts.specs.inside.Tables.{by_bytes};
 
-use crate::caller::{CallerReceipts, Freed};
+use crate::caller::{CallerReceipts, Freed, Receipt};
 use crate::verdict::Verdict;
 use std::alloc::{AllocError, Global};
-use std::collections::BTreeMap;
+use std::collections::{BTreeMap, btree_map};
 use std::marker::Model;
 
 /// How many bytes of lines a tenant may have for each receipt that it may have.
@@ -32,6 +33,7 @@ impl Model for TenantReceipts {
     ghost use Rattle.std.specs.Coded.{codes};
     ghost use Rattle.request_receipts.specs.Receipts as kept;
     ghost use Rattle.request_receipts.specs.Receipts.{by_text_code};
+    ghost use Rattle.request_receipts.specs.Parts.{all_named, all_of, with_caller};
     ghost use Rattle.request_receipts.specs.inside.Tables.{by_bytes, IsCounted};
 
     ghost Value = { kept.Receipts };
@@ -55,6 +57,47 @@ impl TenantReceipts {
             count: 0,
             bytes: 0,
         }
+    }
+
+    /// What is kept of each caller, ascending by the names.
+    pub fn callers(&self) -> btree_map::Iter<'_, String, CallerReceipts>
+        ensures { all_named result ≡ finite.entries self.now.callers }
+    {
+        self.callers.iter()
+    }
+
+    /// Keeps again what was kept of a caller. Nothing changes if something of the caller is kept.
+    ///
+    /// # Errors
+    ///
+    /// Out of memory, or a count would overflow: nothing changed.
+    pub fn restore(
+        &mut self,
+        caller: String,
+        last: u64,
+        receipts: Vec<Receipt>,
+    ) -> Result<(), AllocError>
+        requires { last ≤ greatest_number }
+        ensures restored { OnOk result (self.new ≡ with_caller self.old (string_bytes caller)
+            (finite.get self.old.callers (string_bytes caller)) (record { last = last; receipts = all_of receipts.items })) }
+        ensures unchanged { OnErr result (self.new ≡ self.old) }
+    {
+        if self.last(caller.as_str()).is_some() {
+            return Ok(());
+        }
+        let Some(record) = CallerReceipts::restored(last, receipts) else {
+            return Err(AllocError);
+        };
+        let Some(count) = sum_of(self.count, record.count()) else {
+            return Err(AllocError);
+        };
+        let Some(bytes) = sum_of(self.bytes, record.bytes()) else {
+            return Err(AllocError);
+        };
+        add_in(&mut self.callers, caller, record)?;
+        self.count = count;
+        self.bytes = bytes;
+        Ok(())
     }
 
     /// The greatest number of the caller that acted, if one did.
@@ -184,4 +227,28 @@ fn keep_in(
     let record = CallerReceipts::first(alloc, number, line)?;
     callers.insert(String::from_str(alloc, caller)?, record)?;
     Ok(())
+}
+
+/// One caller more.
+///
+/// # Errors
+///
+/// Out of memory: nothing changed.
+fn add_in(
+    callers: &mut BTreeMap<String, CallerReceipts>,
+    caller: String,
+    record: CallerReceipts,
+) -> Result<(), AllocError>
+    ensures added { OnOk result (by_bytes callers.new ≡ finite.insert (by_bytes callers.old) (string_bytes caller) «record») }
+    ensures unchanged { OnErr result (by_bytes callers.new ≡ by_bytes callers.old) }
+{
+    callers.insert(caller, record)?;
+    Ok(())
+}
+
+/// The sum, if it fits.
+fn sum_of(a: u64, b: u64) -> Option<u64>
+    ensures { IfSome result (λ sum. sum ≡ a + b) }
+{
+    a.checked_add(b)
 }

@@ -1,27 +1,20 @@
 -- How the table of callers is seen, and what is known of it.
-use Rattle.std.specs.Prelude.{◌≡◌, ◌≤◌, ℕ, List, map, string_bytes}
+use Rattle.std.specs.Prelude.{◌≡◌, ◌≤◌, ℕ}
 use Rattle.std.specs.BTreeMap.{BTreeMap}
 use Rattle.std.specs.FinMap as finite
 use Rattle.std.specs.FinMap.{FinMap}
 use Rattle.std.specs.declared.alloc.Global.{Global}
 use Rattle.std.specs.declared.string.String.{String}
 use Rattle.grain_id.specs.Names.{text_cmp}
-use Rattle.request_receipts.specs.Receipts.{Caller, bytes_of_all, count_of_all, most_of_tenant, Receipt as Kept}
-use Rattle.request_receipts.specs.declared.caller.Receipt.{Receipt}
+use Rattle.request_receipts.specs.Parts.{all_named}
+use Rattle.request_receipts.specs.Receipts.{Caller, bytes_of_all, count_of_all, most_of_tenant}
 
 abbrev pub Table : Type 0
 Table = BTreeMap (String Global) Caller
 
 -- what is kept of each caller, by its name's bytes
 abbrev pub by_bytes : Table → FinMap text_cmp Caller
-by_bytes table = finite.from_entries (map (λ e. (string_bytes e.0, e.1)) table.entries)
-
-abbrev pub receipt_of : Receipt → Kept
-receipt_of receipt = (receipt.number, receipt.line.items)
-
--- the receipts, as they are seen
-abbrev pub all_of : List Receipt → List Kept
-all_of receipts = map receipt_of receipts
+by_bytes table = finite.from_entries (all_named table.entries)
 
 -- The tenant may have no more than any, and has so many receipts and bytes of lines.
 pub record IsCounted (most : ℕ) (callers : FinMap text_cmp Caller) (count bytes : ℕ) : Type 0 where

@@ -1,6 +1,6 @@
 use Rattle.std.proofs.Common.{◌≡◌, ◌+◌, drop}
 use Rattle.request_receipts.specs.Receipts.{bytes_in}
-use Rattle.request_receipts.specs.inside.Tables.{all_of}
+use Rattle.request_receipts.specs.Parts.{all_of}
 use Rattle.request_receipts.proofs.caller.bytes_of.Given as goal
 
 -- the bytes so far, and those of the other lines

@@ -1,6 +1,6 @@
 use Rattle.std.proofs.Common.{◌≡◌, drop}
 use Rattle.request_receipts.specs.Receipts.{line_of}
-use Rattle.request_receipts.specs.inside.Tables.{all_of}
+use Rattle.request_receipts.specs.Parts.{all_of}
 use Rattle.request_receipts.proofs.caller.line_in.Given as goal
 
 -- the number has no receipt so far

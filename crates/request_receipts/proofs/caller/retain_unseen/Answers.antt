@@ -2,7 +2,7 @@ use Rattle.std.proofs.Common.{rules, ◌≤◌, ap, sym, subst, ◌∙◌}
 use Rattle.std.specs.Prelude.{nat_lt}
 use Rattle.std.proofs.lemmas.Fn.{filter_same}
 use Rattle.request_receipts.specs.Receipts.{bytes_in}
-use Rattle.request_receipts.specs.inside.Tables.{all_of}
+use Rattle.request_receipts.specs.Parts.{all_of}
 use Rattle.request_receipts.specs.declared.caller.Receipt.{Receipt}
 use Rattle.request_receipts.proofs.Lists.{all_of-unseen, lighter}
 use Rattle.request_receipts.proofs.caller.retain_unseen.Goals as goal
