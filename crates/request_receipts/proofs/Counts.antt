@@ -18,17 +18,17 @@ at_own f (Some c) none = refl
 bytes-pushed : (number : ℕ) (line : List ℕ) (rs : List Receipt) → bytes_in (rs ++ (number, line) ∷ []) ≡ bytes_in rs + length line
 bytes-pushed number line rs = omega (arith, sum_by-append (λ (r : Receipt). length r.1) rs ((number, line) ∷ []), bytes_in-cons (number, line) [])
 
-count-pushed : (r : Receipt) (rs : List Receipt) → length (rs ++ r ∷ []) ≡ length rs + 1
+pub count-pushed : (r : Receipt) (rs : List Receipt) → length (rs ++ r ∷ []) ≡ length rs + 1
 count-pushed r rs = omega (arith, length-append rs (r ∷ []))
 
 module _ (m : FinMap text_cmp Caller) (who : List ℕ) (number : ℕ) (line : List ℕ) where
-  abbrev own : Option Caller
+  abbrev pub own : Option Caller
   own = finite.get m who
 
-  abbrev more : FinMap text_cmp Caller
+  abbrev pub more : FinMap text_cmp Caller
   more = finite.insert m who (with_receipt own number line)
 
-  grown : (f : List Receipt → ℕ) (k : ℕ) → f [] ≡ 0 → f (receipts_of own ++ (number, line) ∷ []) ≡ f (receipts_of own) + k → total (λ (c : Caller). f c.receipts) more ≡ total (λ (c : Caller). f c.receipts) m + k
+  pub grown : (f : List Receipt → ℕ) (k : ℕ) → f [] ≡ 0 → f (receipts_of own ++ (number, line) ∷ []) ≡ f (receipts_of own) + k → total (λ (c : Caller). f c.receipts) more ≡ total (λ (c : Caller). f c.receipts) m + k
   grown f k none adds = by_sums (total-insert text_cmp_total (λ (c : Caller). f c.receipts) m who (with_receipt own number line)) (at_own f own none)
     where
       by_sums : total (λ (c : Caller). f c.receipts) more + at (λ (c : Caller). f c.receipts) own ≡ total (λ (c : Caller). f c.receipts) m + f (receipts_of own ++ (number, line) ∷ [])

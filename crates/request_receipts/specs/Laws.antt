@@ -4,7 +4,7 @@ use Rattle.std.specs.FinMap as finite
 use Rattle.std.specs.List.{AllByRecursion}
 use Rattle.grain_id.specs.Names.{same_text}
 use Rattle.request_receipts.specs.Judgements.{Judgement, acts, again, judgement, not_seen_of_caller, was_answered}
-use Rattle.request_receipts.specs.Receipts.{Receipts, kept, last_of, saw}
+use Rattle.request_receipts.specs.Receipts.{Receipts, count_of_all, kept, last_of, none_kept, saw}
 
 -- a caller says up to which number it has seen its replies; or a number of it is answered by a line
 pub data Change : Type 0 where
@@ -81,3 +81,11 @@ LastStays =
     (r : Receipts) (who : List ℕ) (last : ℕ) (changes : List Change)
     → last_of (finite.get r.callers who) ≡ Some last
     → (later : ℕ) × (last ≤ later) × (last_of (finite.get (after changes r).callers who) ≡ Some later)
+
+-- ---- the tenant's limits
+
+-- From nothing on there are no more callers, and no more receipts, than the tenant may have.
+abbrev pub LimitsHold : Type 0
+LimitsHold =
+    (most : ℕ) (changes : List Change)
+    → (finite.len (after changes (none_kept most)).callers ≤ most) × (count_of_all (after changes (none_kept most)).callers ≤ most)

@@ -1,6 +1,6 @@
 //! Laws over the definitions alone, each the contract of a function that does nothing.
 
-ghost use Rattle.request_receipts.specs.Laws.{ActsOnce, LastStays, OthersApart, OwnStays, StaysKept};
+ghost use Rattle.request_receipts.specs.Laws.{ActsOnce, LastStays, LimitsHold, OthersApart, OwnStays, StaysKept};
 
 /// A number acts at most once.
 #[tactic(auto, using(crate::proofs::Once::acts_once))]
@@ -30,4 +30,9 @@ pub fn own_stays()
 #[tactic(auto, using(crate::proofs::Once::last_stays))]
 pub fn last_stays()
     ensures { LastStays }
+{}
+
+/// There are never more callers, nor more receipts, than the tenant may have.
+pub fn limits_hold()
+    ensures { LimitsHold }
 {}
