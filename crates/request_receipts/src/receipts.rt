@@ -237,12 +237,12 @@ fn keep_in(
 fn add_in(
     callers: &mut BTreeMap<String, CallerReceipts>,
     caller: String,
-    record: CallerReceipts,
+    kept: CallerReceipts,
 ) -> Result<(), AllocError>
-    ensures added { OnOk result (by_bytes callers.new ≡ finite.insert (by_bytes callers.old) (string_bytes caller) «record») }
+    ensures added { OnOk result (by_bytes callers.new ≡ finite.insert (by_bytes callers.old) (string_bytes caller) kept) }
     ensures unchanged { OnErr result (by_bytes callers.new ≡ by_bytes callers.old) }
 {
-    callers.insert(caller, record)?;
+    callers.insert(caller, kept)?;
     Ok(())
 }
 
