@@ -1,7 +1,8 @@
 -- A silo that answers each request before the next is looked at: the steps that it takes, and what it is then. It is
 -- told once, of the whole of all tenants and of the machine of one.
-use Rattle.std.specs.Prelude.{ℕ, zero, suc, Bool, true, false, not, ◌==◌, List, [], ◌∷◌, ◌++◌, length, Option, Some, None, is_some}
-use Rattle.std.specs.Prelude.{if◌then◌else◌}
+use Rattle.std.specs.Prelude.{ℕ, zero, suc, ◌-◌, Bool, true, false, not, ◌||◌, ◌==◌, List, [], ◌∷◌, ◌++◌, length, nat_lt, Option, Some, None}
+use Rattle.std.specs.Prelude.{is_some, if◌then◌else◌}
+use Rattle.std.specs.List.{list_all}
 use Rattle.std.specs.FinMap as map
 use Rattle.grain_id.specs.Names.{Grain}
 use Rattle.silo_event.specs.Failed.{as_failed}
@@ -11,6 +12,7 @@ use Rattle.silo_event.specs.declared.step.Step.{Step}
 use Rattle.silo_event.specs.declared.step.Step.TheVariants.{Refuse, Call, Poke, Status, Deliver, Activate, Load, Begin, Store, End}
 use Rattle.silo_event.specs.declared.step.Step.TheVariants.{Abandon, Tick, Sweep}
 use Rattle.grain_logic.specs.Logic.{Logic}
+use Rattle.tenant_accounts.specs.Sends.{message_bytes, sent_bytes}
 use Rattle.silo_model.specs.Machine.{Machine, Account, Entry, Request, Send}
 use Rattle.silo_model.specs.Pending.{sends_of}
 use Rattle.silo_model.specs.Step.{machine_step}
@@ -47,6 +49,12 @@ pub data Closing : Type 0 where
   storage_failed : Closing
   out_of_memory : Closing
 
+-- the turn isn't given up
+abbrev pub is_closed : Closing → Bool
+is_closed well = true
+is_closed storage_failed = true
+is_closed out_of_memory = false
+
 -- how it goes with one request: in the step that brings it, as its grain is loaded, and as its turn is closed
 pub record Luck : Type 0 where
   pub asking_failed : Bool
@@ -57,6 +65,13 @@ pub record Luck : Type 0 where
 abbrev pub good : Luck
 good = record { asking_failed = false; loading_failed = false; closing = well }
 
+-- memory doesn't fail as the turn is closed
+abbrev pub has_memory : Luck → Bool
+has_memory luck = is_closed luck.closing
+
+abbrev pub all_have_memory : List Luck → Bool
+all_have_memory lucks = list_all has_memory lucks
+
 -- that of the next request, and that of the later ones
 abbrev pub first_luck : List Luck → Luck
 first_luck [] = good
@@ -65,6 +80,33 @@ first_luck (luck ∷ lucks) = luck
 abbrev pub later_luck : List Luck → List Luck
 later_luck [] = []
 later_luck (luck ∷ lucks) = lucks
+
+-- ---- how much of what a tenant's grains sent may wait, and how much of it is delivered behind one line
+
+-- While more calls wait to be delivered, or the messages of those that wait have more bytes, each turn of a call that is delivered is given
+-- up: one that is served may send four others, and what waits would grow without end.
+abbrev pub waiting_calls : ℕ
+waiting_calls = 10000
+
+abbrev pub waiting_bytes : ℕ
+waiting_bytes = 1048576
+
+abbrev pub too_many_wait : List Send → Bool
+too_many_wait sends = nat_lt waiting_calls (length sends) || nat_lt waiting_bytes (sent_bytes sends)
+
+-- how it goes with a call that is delivered then
+abbrev pub given_up_if : Bool → Luck → Luck
+given_up_if true luck = record luck { closing = out_of_memory }
+given_up_if false luck = luck
+
+-- Once the messages of what was delivered behind a line have as many bytes, no more is delivered behind it.
+abbrev pub delivered_bytes : ℕ
+delivered_bytes = 262144
+
+-- as many bytes as the oldest takes of that
+abbrev pub oldest_bytes : List Send → ℕ
+oldest_bytes [] = 0
+oldest_bytes (oldest ∷ others) = message_bytes oldest
 
 -- ---- a request that was accepted: its grain is brought up, and it is given its turn
 
@@ -125,21 +167,24 @@ module _ {M : Type 0} (by : Stepper M) where
 
   -- ---- what a tenant's grains sent
 
-  -- the oldest is delivered, if there is one
+  -- The oldest is delivered, if there is one. Its turn is given up if too many wait.
   abbrev pub delivering : M → List Send → Luck → List Step
   delivering m [] luck = []
-  delivering m (oldest ∷ others) luck = bringing m (Deliver oldest.source) (Some oldest.message.target) luck
+  delivering m (oldest ∷ others) luck =
+      bringing m (Deliver oldest.source) (Some oldest.message.target) (given_up_if (too_many_wait (oldest ∷ others)) luck)
 
-  -- so many times at most
-  abbrev pub deliveries : ℕ → M → List ℕ → List Luck → List Step
-  deliveries zero m tenant lucks = []
-  deliveries (suc n) m tenant lucks =
-      let steps = delivering m (sends_of (by.account m tenant)) (first_luck lucks) in
-      steps ++ deliveries n (run m steps) tenant (later_luck lucks)
+  -- so many times at most, and while there is room for more bytes
+  abbrev pub deliveries : ℕ → ℕ → M → List ℕ → List Luck → List Step
+  deliveries zero room m tenant lucks = []
+  deliveries (suc n) zero m tenant lucks = []
+  deliveries (suc n) (suc room) m tenant lucks =
+      let sends = sends_of (by.account m tenant) in
+      let steps = delivering m sends (first_luck lucks) in
+      steps ++ deliveries n (suc room - oldest_bytes sends) (run m steps) tenant (later_luck lucks)
 
   abbrev pub deliveries_of : ℕ → M → Option (List ℕ) → List Luck → List Step
   deliveries_of n m None lucks = []
-  deliveries_of n m (Some owner) lucks = deliveries n m owner lucks
+  deliveries_of n m (Some owner) lucks = deliveries n delivered_bytes m owner lucks
 
 -- ---- what is asked
 

@@ -8,7 +8,8 @@ use Rattle.silo_model.specs.Whole.{Whole, whole_step}
 use Rattle.silo_model.specs.Run.{done_by}
 use Rattle.silo_model.specs.Opening.{Setup}
 use Rattle.silo_model.specs.Journal.{LeadsTo}
-use Rattle.answer_model.specs.Answering.{Asked, answering, is_asked, whole_stepper}
+use Rattle.silo_event.specs.Failed.{has_failed}
+use Rattle.answer_model.specs.Answering.{Asked, all_have_memory, answering, is_asked, whole_stepper}
 use Rattle.answer_model.specs.Idle.{AllIdle}
 
 -- the storage didn't fail in the step, and no turn is given up by it
@@ -40,4 +41,16 @@ abbrev pub AnsweredCertainly : Type 0
 AnsweredCertainly = (logic : Logic) (setup : Setup) (journal : List Step) (w : Whole) (n : ℕ) (asked : Asked)
     → LeadsTo logic setup journal w → AllIdle w.entries → is_asked asked.step ≡ true
     → AllWell (done_by (whole_step logic) w (answering (whole_stepper logic) n w asked))
+    → answering (whole_stepper logic) n w asked ≡ answering (whole_stepper logic) n w (luckily asked)
+
+-- the storage didn't fail in any of them
+abbrev pub AllStored : List Step → Type 0
+AllStored [] = Unit {0}
+AllStored (s ∷ steps) = (has_failed s ≡ false) × AllStored steps
+
+-- So it is if the storage didn't fail and no turn was given up for want of memory, even where turns are given up since too many calls wait.
+abbrev pub AnsweredSurely : Type 0
+AnsweredSurely = (logic : Logic) (setup : Setup) (journal : List Step) (w : Whole) (n : ℕ) (asked : Asked)
+    → LeadsTo logic setup journal w → AllIdle w.entries → is_asked asked.step ≡ true → all_have_memory asked.lucks ≡ true
+    → AllStored (done_by (whole_step logic) w (answering (whole_stepper logic) n w asked))
     → answering (whole_stepper logic) n w asked ≡ answering (whole_stepper logic) n w (luckily asked)

@@ -1,9 +1,10 @@
 -- What a tenant's grains sent: how it is seen, how it comes to an account, and what comes first.
-use Rattle.std.specs.Prelude.{◌≡◌, ℕ, List, [], ◌∷◌, ◌++◌, map, Option, Some, None, option_map, if◌then◌else◌}
+use Rattle.std.specs.Prelude.{◌≡◌, ℕ, List, [], ◌∷◌, ◌++◌, length, map, sum_by, Option, Some, None, option_map, if◌then◌else◌}
 use Rattle.std.specs.FinMap as finite
 use Rattle.std.specs.FinMap.{FinMap}
 use Rattle.grain_id.specs.Names.{Grain, grain_eq, text_cmp}
 use Rattle.request_codec.specs.Call.{Call}
+use Rattle.request_codec.specs.Written.{message_spelling}
 use Rattle.tenant_accounts.specs.Kept.{Account, Send}
 use Rattle.tenant_accounts.specs.declared.account.Sent.{Sent}
 
@@ -29,6 +30,19 @@ first_from grain (sent ∷ sends) =
 abbrev pub first_source : List Send → Option Grain
 first_source [] = None
 first_source (s ∷ sends) = Some s.source
+
+-- what was sent first
+abbrev pub first_send : List Send → Option Send
+first_send [] = None
+first_send (s ∷ sends) = Some s
+
+-- how many bytes the message of a call has
+abbrev pub message_bytes : Send → ℕ
+message_bytes s = length (message_spelling s.message.call)
+
+-- and those of all of them
+abbrev pub sent_bytes : List Send → ℕ
+sent_bytes sends = sum_by message_bytes sends
 
 -- In the account of a tenant the first call that is left was sent by the grain.
 abbrev pub HasSent : FinMap text_cmp Account → Grain → Type 0
