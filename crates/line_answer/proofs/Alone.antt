@@ -1,5 +1,5 @@
 -- Lines of others change nothing of what a tenant is shown.
-use Rattle.std.proofs.Common.{◌≡◌, ℕ, Bool, true, false, List, [], ◌∷◌, ◌++◌, length, refl, ap, sym, ◌∙◌, subst}
+use Rattle.std.proofs.Common.{◌≡◌, ℕ, Bool, true, false, List, [], ◌∷◌, ◌++◌, length, append-nil, refl, ap, sym, ◌∙◌, subst}
 use Rattle.std.specs.Prelude.{map as map_list, drop}
 use Rattle.silo_event.specs.declared.step.Step.{Step}
 use Rattle.grain_logic.specs.Logic.{Logic}
@@ -9,11 +9,11 @@ use Rattle.silo_model.specs.Run.{done_by, whole_run}
 use Rattle.line_parser.specs.declared.line.Line.{Line}
 use Rattle.line_parser.specs.declared.line.Line.TheVariants as line
 use Rattle.line_protocol.specs.LineTexts.{said_lines, texts_of}
-use Rattle.answer_model.specs.Answering.{Luck, Stepper, Asked, taken, is_asked, whole_stepper, machine_stepper, answering, answered, all_answered}
-use Rattle.answer_model.specs.Certain.{AllWell}
+use Rattle.answer_model.specs.Answering.{Luck, Stepper, Asked, all_have_memory, taken, is_asked, whole_stepper, machine_stepper, answering, answered, all_answered}
+use Rattle.answer_model.specs.Certain.{AllStored, AllWell}
 use Rattle.answer_model.specs.Idle.{AllIdle}
 use Rattle.answer_model.proofs.Apart.{tenants_apart}
-use Rattle.answer_model.proofs.Certain.{AllWell-split, parts_well, answered_certainly}
+use Rattle.answer_model.proofs.Certain.{AllWell-split, parts_well, answered_certainly, answered_surely}
 use Rattle.answer_model.proofs.Reached.{IsReached, run_reached}
 use Rattle.answer_model.proofs.Idle.{answered_at_once}
 use Rattle.line_answer.specs.Texts.{Heard, asked_if, asks_by, asks_of, text_if, all_steps, asked_text, step_text, line_text, lines_text}
@@ -47,10 +47,8 @@ module _ (logic : Logic) (setup : Setup) (n : ℕ) where
     abbrev plain : Asked
     plain = record { step = s; lucks = [] }
 
-    module _ (all : AllWell (done_by (whole_step logic) w (answering of_whole n w one))) where
-      same_steps : answering of_whole n w one ≡ answering of_whole n w plain
-      same_steps = answered_certainly logic setup reached.0 w n one reached.1 idle asked all
-
+    -- if the steps are those of good luck
+    module _ (same_steps : answering of_whole n w one ≡ answering of_whole n w plain) where
       same_after : answered of_whole n w one ≡ answered of_whole n w plain
       same_after = ap (whole_run logic w) same_steps
 
@@ -60,6 +58,12 @@ module _ (logic : Logic) (setup : Setup) (n : ℕ) where
       same_text : asked_text of_whole n w one ≡ asked_text of_whole n w plain
       same_text =
           (λ i. text_if (whole_step logic w (same_taken i)) (texts_of (drop (length w.replies) (same_after i).replies)))
+
+    well_steps : AllWell (done_by (whole_step logic) w (answering of_whole n w one)) → answering of_whole n w one ≡ answering of_whole n w plain
+    well_steps all = answered_certainly logic setup reached.0 w n one reached.1 idle asked all
+
+    sure_steps : all_have_memory lucks ≡ true → AllStored (done_by (whole_step logic) w (answering of_whole n w one)) → answering of_whole n w one ≡ answering of_whole n w plain
+    sure_steps memory all = answered_surely logic setup reached.0 w n one reached.1 idle asked memory all
 
     idle_then : AllIdle (answered of_whole n w one).entries
     idle_then = (answered_at_once logic setup reached.0 w n one reached.1 idle asked).0
@@ -97,10 +101,11 @@ module _ (logic : Logic) (setup : Setup) (n : ℕ) where
           let all_asked : (lucks : List Luck) → asks_by (line.Step s) lucks ≡ record { step = s; lucks = lucks } ∷ [] = λ lucks. ap (λ b. asked_if b s lucks) is in
           let tried = subst (λ asks. Well w (asks ++ others)) (all_asked lucks) all in
           let parts = parts_well logic w (answering of_whole n w asked) (all_steps of_whole n (answered of_whole n w asked) others) tried in
+          let same = well_steps w reached idle s lucks is parts.0 in
           record {
-            after = ap (all_answered of_whole n w) (all_asked lucks) ∙ same_after w reached idle s lucks is parts.0 ∙ ap (all_answered of_whole n w) (sym (all_asked []));
+            after = ap (all_answered of_whole n w) (all_asked lucks) ∙ same_after w reached idle s lucks is same ∙ ap (all_answered of_whole n w) (sym (all_asked []));
             text =
-                ap (λ b. step_text of_whole n b w s lucks) is ∙ same_text w reached idle s lucks is parts.0
+                ap (λ b. step_text of_whole n b w s lucks) is ∙ same_text w reached idle s lucks is same
                 ∙ ap (λ b. step_text of_whole n b w s []) (sym is);
             reached = subst (λ asks. IsReached logic setup (all_answered of_whole n w asks)) (sym (all_asked lucks)) (reached_then w asked reached);
             idle = subst (λ asks. AllIdle (all_answered of_whole n w asks).entries) (sym (all_asked lucks)) (idle_then w reached idle s lucks is);
@@ -113,6 +118,38 @@ module _ (logic : Logic) (setup : Setup) (n : ℕ) where
           let none : (lucks : List Luck) → asks_by (line.Step s) lucks ≡ [] = λ lucks. ap (λ b. asked_if b s lucks) is in
           nothing_well w (line.Step s) lucks others (none lucks ∙ sym (none []))
           (ap (λ b. step_text of_whole n b w s lucks) is ∙ ap (λ b. step_text of_whole n b w s []) (sym is)) (none lucks) reached idle all
+
+  -- ---- one line, if the storage didn't fail and there was memory for the turns that came of it
+
+  abbrev AsWithGoodLuck : Whole → Line → List Luck → Type 0
+  AsWithGoodLuck w said lucks =
+      (all_answered of_whole n w (asks_by said lucks) ≡ all_answered of_whole n w (asks_by said []))
+      × (line_text of_whole n w said lucks ≡ line_text of_whole n w said [])
+
+  pub line_surely : (w : Whole) (said : Line) (lucks : List Luck) → IsReached logic setup w → AllIdle w.entries → all_have_memory lucks ≡ true
+      → AllStored (done_by (whole_step logic) w (all_steps of_whole n w (asks_by said lucks))) → AsWithGoodLuck w said lucks
+  line_surely w line.Nothing lucks reached idle memory all = (refl, refl)
+  line_surely w (line.Refusal r) lucks reached idle memory all = (refl, refl)
+  line_surely w (line.Step s) lucks reached idle memory all = by_test (is_asked s) refl
+    where
+      abbrev asked : Asked
+      asked = record { step = s; lucks = lucks }
+
+      by_test : (b : Bool) → is_asked s ≡ b → AsWithGoodLuck w (line.Step s) lucks
+      by_test true is =
+          let all_asked : (lucks : List Luck) → asks_by (line.Step s) lucks ≡ record { step = s; lucks = lucks } ∷ [] = λ lucks. ap (λ b. asked_if b s lucks) is in
+          let tried = subst (λ asks. AllStored (done_by (whole_step logic) w (all_steps of_whole n w asks))) (all_asked lucks) all in
+          let same =
+          sure_steps w reached idle s lucks is memory (subst (λ steps. AllStored (done_by (whole_step logic) w steps)) (append-nil (answering of_whole n w asked)) tried)
+          in (
+            ap (all_answered of_whole n w) (all_asked lucks) ∙ same_after w reached idle s lucks is same ∙ ap (all_answered of_whole n w) (sym (all_asked [])),
+            ap (λ b. step_text of_whole n b w s lucks) is ∙ same_text w reached idle s lucks is same ∙ ap (λ b. step_text of_whole n b w s []) (sym is),
+          )
+      by_test false is =
+          let none : (lucks : List Luck) → asks_by (line.Step s) lucks ≡ [] = λ lucks. ap (λ b. asked_if b s lucks) is in (
+            ap (all_answered of_whole n w) (none lucks ∙ sym (none [])),
+            ap (λ b. step_text of_whole n b w s lucks) is ∙ ap (λ b. step_text of_whole n b w s []) (sym is),
+          )
 
   -- all lines
   pub all_well : (heard : List Heard) (w : Whole) → IsReached logic setup w → AllIdle w.entries → Well w (asks_of heard)

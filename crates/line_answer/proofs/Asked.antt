@@ -28,8 +28,8 @@ use Rattle.answer_model.specs.Idle.{AllIdle, TellsAsker}
 use Rattle.answer_model.proofs.Idle.{answered_at_once}
 use Rattle.answer_model.proofs.Apart.{tenants_apart}
 use Rattle.line_answer.specs.Texts.{Heard, asked_if, asks_by, asks_of, text_if, all_steps, step_text, line_text, line_texts, lines_text}
-use Rattle.line_answer.specs.Trying.{Tries, AnswersAsked}
-use Rattle.line_answer.specs.Runs.{AnswersLine, AnswersLines}
+use Rattle.line_answer.specs.Trying.{Tries, AnswersAsked, AnswersBy}
+use Rattle.line_answer.specs.Runs.{AnswersLine, AnswersLineBy, AnswersLines}
 use Rattle.line_answer.proofs.OwnTexts.{own_texts}
 use Rattle.line_answer.proofs.Trying.{tries_none, tries_on}
 
@@ -73,13 +73,13 @@ module _ {M : Type 0} (by : Stepper M) (n : ℕ) where
 module _ (logic : Logic) (n : ℕ) where
   -- a line that asks nothing
   pub nothing_asked : (old : History) (said : Line) (text : List ℕ) → asks_by said [] ≡ [] → text ≡ line_text (whole_stepper logic) n old.whole said []
-      → AllIdle old.whole.entries → AnswersLine logic n old said old text
+      → AllIdle old.whole.entries → AnswersLineBy logic n old said true old text
   nothing_asked old said text none is idle =
-      ([], subst (λ asks. Tries logic old (all_steps (whole_stepper logic) n old.whole asks) old) (sym none) (tries_none logic old), is, idle)
+      (([], subst (λ asks. Tries logic old (all_steps (whole_stepper logic) n old.whole asks) old) (sym none) (tries_none logic old), is, idle), λ _. refl)
 
   -- a step that is no client's to ask
   pub not_asked : (old : History) (s : Step) (text : List ℕ) → is_asked s ≡ false → text ≡ ended (refusal_line NotARequest) → AllIdle old.whole.entries
-      → AnswersLine logic n old (line.Step s) old text
+      → AnswersLineBy logic n old (line.Step s) true old text
   not_asked old s text never is idle =
       nothing_asked old (line.Step s) text (ap (λ b. asked_if b s []) never) (is ∙ sym (ap (λ b. step_text (whole_stepper logic) n b old.whole s []) never)) idle
 
@@ -90,13 +90,14 @@ module _ (logic : Logic) (n : ℕ) where
   text_by (Some w) false text e = absurd (true≢false e)
 
   -- a step that is
-  pub asked_line : (old new : History) (s : Step) (done : Bool) (text : List ℕ) → is_asked s ≡ true → AnswersAsked logic n old s done new
+  pub asked_line : (old new : History) (s : Step) (done memory : Bool) (text : List ℕ) → is_asked s ≡ true → AnswersBy logic n old s done memory new
       → text ≡ (if done then texts_of (drop (length old.whole.replies) new.whole.replies) else ended not_now_line) → AllIdle new.whole.entries
-      → AnswersLine logic n old (line.Step s) new text
-  asked_line old new s done text asked answers is idle =
+      → AnswersLineBy logic n old (line.Step s) memory new text
+  asked_line old new s done memory text asked (answers, all) is idle =
       let by = whole_stepper logic in
       let one : Asked = record { step = s; lucks = answers.lucks } in
-      let after : new.whole ≡ answered by n old.whole one = answers.tries.whole in (
+      let after : new.whole ≡ answered by n old.whole one = answers.tries.whole in
+      let answered_line : AnswersLine logic n old (line.Step s) new text = (
         answers.lucks,
         subst (λ b. Tries logic old (all_steps by n old.whole (asked_if b s answers.lucks)) new) (sym asked)
             (subst (λ steps. Tries logic old steps new) (sym (append-nil (answering by n old.whole one))) answers.tries),
@@ -106,6 +107,7 @@ module _ (logic : Logic) (n : ℕ) where
             ∙ sym (ap (λ b. step_text by n b old.whole s answers.lucks) asked),
         idle,
       )
+      in (answered_line, all)
 
 -- ---- what is asked of a silo where all is idle
 
@@ -116,7 +118,10 @@ opening_idle setup g e found =
     subst IsIdle k.2 (record { state = k.0.state; version = k.0.version; phase = refl; nothing_waits = refl; none_open = map.len-empty nat_cmp Request })
 
 module _ (logic : Logic) (n : ℕ) (old new : History) (s : Step) (done : Bool) (leads : LeadsTo logic old.setup old.journal old.whole) (idle : AllIdle old.whole.entries)
-    (asked : is_asked s ≡ true) (answers : AnswersAsked logic n old s done new) where
+    (asked : is_asked s ≡ true) (memory : Bool) (answers_by : AnswersBy logic n old s done memory new) where
+  abbrev answers : AnswersAsked logic n old s done new
+  answers = answers_by.0
+
   abbrev one : Asked
   one = record { step = s; lucks = answers.lucks }
 

@@ -1,4 +1,5 @@
 pub mod Trying
+pub mod Delivering
 pub mod Dropped
 pub mod OwnTexts
 pub mod Asked

@@ -1,5 +1,5 @@
 -- Steps that are tried one after another.
-use Rattle.std.proofs.Common.{◌≡◌, ℕ, zero, suc, ◌+◌, ◌==◌, Bool, true, false, List, [], ◌∷◌, ◌++◌, length, Option, Some, None, unwrap_or, refl, ap, sym, ◌∙◌, subst, arith, append_assoc, true≢false}
+use Rattle.std.proofs.Common.{◌≡◌, ℕ, ◌+◌, ◌&&◌, ◌==◌, Bool, true, false, List, [], ◌∷◌, ◌++◌, length, Option, Some, None, unwrap_or, refl, ap, sym, ◌∙◌, subst, arith, append_assoc, true≢false}
 use Rattle.std.specs.Prelude.{◌<◌, is_some, option_and_then, slice_get, if◌then◌else◌}
 use Rattle.std.specs.FinMap as map
 use Rattle.std.proofs.lemmas.Bool.Decides.{Decides-eqb}
@@ -12,11 +12,7 @@ use Rattle.silo_event.specs.Failed.{has_failed, may_fail, as_failed}
 use Rattle.silo_event.specs.declared.step.Step.{Step}
 use Rattle.silo_event.specs.declared.step.Step.TheVariants.{Refuse, Call, Poke, Status, Deliver, Activate, Load, Begin, Store, End, Abandon, Tick, Sweep}
 use Rattle.grain_logic.specs.Logic.{Logic}
-use Rattle.silo_model.specs.Machine.{Entry, Request, Send, Phase, waiting, loading, ready}
-use Rattle.silo_model.specs.Opening.{Setup}
-use Rattle.silo_model.specs.Journal.{LeadsTo}
-use Rattle.silo_model.specs.Pending.{sends_of}
-use Rattle.silo_model.specs.Sends.{first_target}
+use Rattle.silo_model.specs.Machine.{Entry, Request, Phase, waiting, loading, ready}
 use Rattle.silo_model.specs.Turns.{activated, opened, opened_if_ready}
 use Rattle.silo_model.specs.Step.{effect_of}
 use Rattle.silo_model.specs.Whole.{Whole, whole_step}
@@ -24,13 +20,12 @@ use Rattle.silo_model.specs.Run.{if_possible, done_by, whole_run}
 use Rattle.silo_model.proofs.Contexts.{step_at_own}
 use Rattle.silo_model.proofs.EntrySteps.{activate_found, begin_found}
 use Rattle.silo_model.proofs.Runs.{whole_after, run_by-append, done_by-append}
-use Rattle.tenant_accounts.specs.Sends.{first_source}
 use Rattle.silo_state.specs.Work.{first_number, first_waiting}
 use Rattle.silo_core.specs.History.{History, Failures, Advances, Fails, StaysAsItWas, failed_since}
 use Rattle.silo_core.specs.AtOnce as at_once
-use Rattle.answer_model.specs.Answering.{Luck, Closing, well, storage_failed, out_of_memory, whole_stepper, taken_by, raising, ending, closing, turn_of, turn_of_first, turning, serving, bringing, is_accepted, delivering, deliveries, deliveries_of, good, is_asked, called_grain}
-use Rattle.answer_model.proofs.Served.{source_own, target_is}
-use Rattle.line_answer.specs.Trying.{failed_among, Tries, is_possible, TakesNow, IsFirst, Begins, Opens, Brings, EndsIn, IsOldest, Delivers, AnswersAsked}
+use Rattle.answer_model.specs.Answering.{Luck, Closing, well, storage_failed, out_of_memory, whole_stepper, taken_by, raising, ending, closing, turn_of, turn_of_first, turning, serving, bringing, is_accepted, deliveries_of, is_asked, called_grain, given_up_if, has_memory, all_have_memory}
+use Rattle.line_answer.specs.Delivering.{HasDelivered}
+use Rattle.line_answer.specs.Trying.{failed_among, Tries, is_possible, TakesNow, IsFirst, Begins, Opens, Closes, Serves, Brings, EndsIn, AnswersAsked, AnswersBy, closing_if}
 
 -- ---- lists of steps that are tried
 
@@ -163,15 +158,22 @@ module _ (logic : Logic) where
             (subst (λ h. Tries logic h (Store g turn all.0 ∷ []) new) not.1 all.1),
       )
 
-  abbrev ClosesTurn : History → Grain → ℕ → History → Type 0
-  ClosesTurn old g turn new = (how : Closing) × Tries logic old (closing (whole_stepper logic) old.whole g turn how) new
+  pub closed : (old new : History) (g : Grain) (turn : ℕ) (b : Bool) → b ≡ false → EndsTurn old g turn new → Closes logic old g turn b true new
+  closed old new g turn b is ends = subst (λ b. Closes logic old g turn b true new) (sym is) (by ends)
+    where
+      by : EndsTurn old g turn new → Closes logic old g turn false true new
+      by (false, tries) = (well, tries, λ _. refl)
+      by (true, tries) = (storage_failed, tries, λ _. refl)
 
-  pub closed : (old new : History) (g : Grain) (turn : ℕ) → EndsTurn old g turn new → ClosesTurn old g turn new
-  closed old new g turn (false, tries) = (well, tries)
-  closed old new g turn (true, tries) = (storage_failed, tries)
+  pub given_up : (old new : History) (g : Grain) (turn : ℕ) (done : Bool) → TakesNow logic old (Abandon g turn) done new → Tries logic old (Abandon g turn ∷ []) new
+  given_up old new g turn done takes = (tried_marked old new (λ _. Abandon g turn) done refl takes).1
 
-  pub given_up : (old new : History) (g : Grain) (turn : ℕ) (done : Bool) → TakesNow logic old (Abandon g turn) done new → ClosesTurn old g turn new
-  given_up old new g turn done takes = (out_of_memory, (tried_marked old new (λ _. Abandon g turn) done refl takes).1)
+  pub ran_out : (old new : History) (g : Grain) (turn : ℕ) (b : Bool) → b ≡ false → Tries logic old (Abandon g turn ∷ []) new → Closes logic old g turn b false new
+  ran_out old new g turn b is tries =
+      subst (λ b. Closes logic old g turn b false new) (sym is) (out_of_memory, tries, λ none. absurd (true≢false (sym none)))
+
+  pub has_to : (old new : History) (g : Grain) (turn : ℕ) (b : Bool) → b ≡ true → Tries logic old (Abandon g turn ∷ []) new → Closes logic old g turn b true new
+  has_to old new g turn b is tries = subst (λ b. Closes logic old g turn b true new) (sym is) (well, tries, λ _. refl)
 
   -- ---- the request's turn, and all of it
 
@@ -226,77 +228,96 @@ module _ (logic : Logic) where
     begins,
   )
 
-  abbrev Serves : History → Grain → History → Type 0
-  Serves old g new = (luck : Luck) × Tries logic old (serving (whole_stepper logic) old.whole g luck) new
-
   abbrev with_luck : Bool → Closing → Luck
   with_luck failed how = record { asking_failed = false; loading_failed = failed; closing = how }
 
+  luck_if : (b failed : Bool) (how : Closing) → with_luck failed (closing_if b how) ≡ given_up_if b (with_luck failed how)
+  luck_if true failed how = refl
+  luck_if false failed how = refl
+
   -- in the whole where the steps before led
-  turning_at : (old mid new : History) (g : Grain) (failed : Bool) (how : Closing) → Tries logic old (raising (whole_stepper logic) old.whole g failed) mid
-      → Tries logic mid (turning (whole_stepper logic) mid.whole g how) new → Serves old g new
-  turning_at old mid new g failed how up turn =
-      let steps = raising (whole_stepper logic) old.whole g failed in (
-        with_luck failed how,
-        tries_on old mid new steps _ up (subst (λ w. Tries logic mid (turning (whole_stepper logic) w g how) new) up.whole turn),
-      )
+  turning_at : (old mid new : History) (g : Grain) (b failed : Bool) (how : Closing) → Tries logic old (raising (whole_stepper logic) old.whole g failed) mid
+      → Tries logic mid (turning (whole_stepper logic) mid.whole g (closing_if b how)) new
+      → Tries logic old (serving (whole_stepper logic) old.whole g (given_up_if b (with_luck failed how))) new
+  turning_at old mid new g b failed how up turn =
+      let steps = raising (whole_stepper logic) old.whole g failed in
+      subst (λ luck. Tries logic old (serving (whole_stepper logic) old.whole g luck) new) (luck_if b failed how)
+      (tries_on old mid new steps _ up (subst (λ w. Tries logic mid (turning (whole_stepper logic) w g (closing_if b how)) new) up.whole turn))
 
-  pub served_not : (old mid new : History) (g : Grain) → Raised old old mid g → Begins logic mid g None new → Serves old g new
-  served_not old mid new g up begins =
-      turning_at old mid new g up.0 well up.1
-      (subst (λ b. Tries logic mid (if b then turn_of (whole_stepper logic) mid.whole g well (map.get mid.whole.entries g) else []) new) (sym begins.0)
-      (subst (Tries logic mid []) (sym begins.1) (tries_none mid)))
+  pub served_not : (old mid new : History) (g : Grain) (b : Bool) → Raised old old mid g → Begins logic mid g None new → Serves logic old g b true new
+  served_not old mid new g b up begins = (
+    with_luck up.0 well,
+    turning_at old mid new g b up.0 well up.1
+        (subst (λ can. Tries logic mid (if can then turn_of (whole_stepper logic) mid.whole g (closing_if b well) (map.get mid.whole.entries g) else []) new) (sym begins.0)
+        (subst (Tries logic mid []) (sym begins.1) (tries_none mid))),
+    λ _. refl,
+  )
 
-  pub served : (old mid begun new : History) (g : Grain) (number : ℕ) → Raised old old mid g → Begins logic mid g (Some number) begun → ClosesTurn begun g number new
-      → Serves old g new
-  served old mid begun new g number up begins closes =
+  pub served : (old mid begun new : History) (g : Grain) (number : ℕ) (b memory : Bool) → Raised old old mid g → Begins logic mid g (Some number) begun
+      → Closes logic begun g number b memory new → Serves logic old g b memory new
+  served old mid begun new g number b memory up begins closes =
       let by = whole_stepper logic in
       let w = mid.whole in
       let first = begins.2 in
-      turning_at old mid new g up.0 closes.0 up.1
-      (subst (λ b. Tries logic mid (if b then turn_of by w g closes.0 (map.get w.entries g) else []) new) (sym begins.1)
-      (subst (λ found. Tries logic mid (turn_of by w g closes.0 found) new) (sym first.found)
-      (subst (λ queue. Tries logic mid (turn_of_first by w g closes.0 queue) new) (sym first.queue)
-      (tries_on mid begun new (Begin g ∷ []) _ begins.0
-      (subst (λ n. Tries logic begun (closing by (whole_after logic w (Begin g)) g n closes.0) new) (sym first.numbered)
-      (subst (λ x. Tries logic begun (closing by x g number closes.0) new) begins.0.whole closes.1))))))
+      let how = closing_if b closes.0 in (
+        with_luck up.0 closes.0,
+        turning_at old mid new g b up.0 closes.0 up.1
+            (subst (λ can. Tries logic mid (if can then turn_of by w g how (map.get w.entries g) else []) new) (sym begins.1)
+            (subst (λ found. Tries logic mid (turn_of by w g how found) new) (sym first.found)
+            (subst (λ queue. Tries logic mid (turn_of_first by w g how queue) new) (sym first.queue)
+            (tries_on mid begun new (Begin g ∷ []) _ begins.0
+            (subst (λ n. Tries logic begun (closing by (whole_after logic w (Begin g)) g n how) new) (sym first.numbered)
+            (subst (λ x. Tries logic begun (closing by x g number how) new) begins.0.whole closes.1)))))),
+        closes.2,
+      )
 
   -- ---- a step that may bring a request
 
-  abbrev Bringing : History → Step → Option Grain → Bool → History → Type 0
-  Bringing = Brings logic
+  -- how asking went is nothing to the request's turn
+  asking_apart : (b failed : Bool) (luck : Luck) (w : Whole) (g : Grain)
+      → serving (whole_stepper logic) w g (given_up_if b luck) ≡ serving (whole_stepper logic) w g (given_up_if b (record luck { asking_failed = failed }))
+  asking_apart true failed luck w g = refl
+  asking_apart false failed luck w g = refl
 
-  module _ (old mid : History) (s : Step) (done : Bool) (takes : TakesNow logic old s done mid) where
+  module _ (old mid : History) (s : Step) (b done : Bool) (takes : TakesNow logic old s done mid) where
     abbrev all_of : (failed : Bool) × Tries logic old (taken_by failed s ∷ []) mid × (is_possible logic old.whole (taken_by failed s) ≡ done)
     all_of = tried old mid s done takes
 
     abbrev asking_luck : Luck
     asking_luck = record { asking_failed = all_of.0; loading_failed = false; closing = well }
 
-    pub brought_none : Bringing old s None done mid
-    brought_none = (asking_luck, all_of.1, all_of.2)
+    pub brought_none : Brings logic old s None b done true mid
+    brought_none = (asking_luck, all_of.1, all_of.2, λ _. refl)
 
-    same_test : (g : Grain) (b : Bool) → (length mid.whole.replies == length old.whole.replies) ≡ b
-        → is_accepted (whole_stepper logic) old.whole (whole_after logic old.whole (taken_by all_of.0 s)) ≡ b
-    same_test g b is = ap (λ (w : Whole). length w.replies == length old.whole.replies) (sym all_of.1.whole) ∙ is
+    same_test : (g : Grain) (same : Bool) → (length mid.whole.replies == length old.whole.replies) ≡ same
+        → is_accepted (whole_stepper logic) old.whole (whole_after logic old.whole (taken_by all_of.0 s)) ≡ same
+    same_test g same is = ap (λ (w : Whole). length w.replies == length old.whole.replies) (sym all_of.1.whole) ∙ is
 
-    pub brought_refused : (g : Grain) → (length mid.whole.replies == length old.whole.replies) ≡ false → Bringing old s (Some g) done mid
+    pub brought_refused : (g : Grain) → (length mid.whole.replies == length old.whole.replies) ≡ false → Brings logic old s (Some g) b done true mid
     brought_refused g refused =
-        let after = whole_after logic old.whole (taken_by all_of.0 s) in (
+        let after = whole_after logic old.whole (taken_by all_of.0 s) in
+        let luck = given_up_if b asking_luck in (
           asking_luck,
-          subst (λ b. Tries logic old (taken_by all_of.0 s ∷ (if b then serving (whole_stepper logic) after g asking_luck else [])) mid) (sym (same_test g false refused)) all_of.1,
+          subst (λ accepted. Tries logic old (taken_by all_of.0 s ∷ (if accepted then serving (whole_stepper logic) after g luck else [])) mid)
+              (sym (same_test g false refused)) all_of.1,
           all_of.2,
+          λ _. refl,
         )
 
-    pub brought : (g : Grain) (new : History) → (length mid.whole.replies == length old.whole.replies) ≡ true → Serves mid g new → Bringing old s (Some g) done new
-    brought g new accepted serves =
+    pub brought : (g : Grain) (new : History) (memory : Bool) → (length mid.whole.replies == length old.whole.replies) ≡ true → Serves logic mid g b memory new
+        → Brings logic old s (Some g) b done memory new
+    brought g new memory accepted serves =
         let after = whole_after logic old.whole (taken_by all_of.0 s) in
-        let luck : Luck = record serves.0 { asking_failed = all_of.0 } in (
+        let luck : Luck = record serves.0 { asking_failed = all_of.0 } in
+        let all = given_up_if b luck in (
           luck,
-          subst (λ b. Tries logic old (taken_by all_of.0 s ∷ (if b then serving (whole_stepper logic) after g luck else [])) new) (sym (same_test g true accepted))
-              (tries_on old mid new (taken_by all_of.0 s ∷ []) (serving (whole_stepper logic) after g luck) all_of.1
-              (subst (λ w. Tries logic mid (serving (whole_stepper logic) w g luck) new) all_of.1.whole serves.1)),
+          subst (λ accepted. Tries logic old (taken_by all_of.0 s ∷ (if accepted then serving (whole_stepper logic) after g all else [])) new)
+              (sym (same_test g true accepted))
+              (tries_on old mid new (taken_by all_of.0 s ∷ []) (serving (whole_stepper logic) after g all) all_of.1
+              (subst (λ w. Tries logic mid (serving (whole_stepper logic) w g all) new) all_of.1.whole
+              (subst (λ steps. Tries logic mid steps new) (asking_apart b all_of.0 serves.0 mid.whole g) serves.1))),
           all_of.2,
+          serves.2,
         )
 
 -- ---- a call that is served at once
@@ -305,15 +326,15 @@ module _ (logic : Logic) (old new : History) (s : Step) (plain : has_failed s �
   same_replies : (length d.called.whole.replies == length old.whole.replies) ≡ true
   same_replies = (Decides-eqb _ _).1 (ap length d.untold)
 
-  pub brought_at_once : Brings logic old s (called_grain s) true new
+  pub brought_at_once : Brings logic old s (called_grain s) false true true new
   brought_at_once =
       let g = d.grain in
       let begins = begun logic d.called d.begun g d.turn d.waits (takes_done logic d.called d.begun (Begin g) refl d.begins) in
       let opens = opened_at_once logic d.called d.begun g d.turn begins in
-      let closes = closed logic d.begun new g d.turn (ended logic d.begun new g d.turn (takes_done logic d.begun new (End g d.turn) refl d.ends)) in
-      subst (λ grain. Brings logic old s grain true new) (sym (ap called_grain d.is_call.is))
-      (brought logic old d.called s true (takes_done logic old d.called s plain d.calls) g new same_replies
-      (served logic d.called opens.0 d.begun new g d.turn opens.1 opens.2 closes))
+      let closes = closed logic d.begun new g d.turn false refl (ended logic d.begun new g d.turn (takes_done logic d.begun new (End g d.turn) refl d.ends)) in
+      subst (λ grain. Brings logic old s grain false true true new) (sym (ap called_grain d.is_call.is))
+      (brought logic old d.called s false true (takes_done logic old d.called s plain d.calls) g new true same_replies
+      (served logic d.called opens.0 d.begun new g d.turn false true opens.1 opens.2 closes))
 
   pub ends_in : EndsIn new.journal s
   ends_in =
@@ -349,117 +370,24 @@ module _ (journal : List Step) (call : Step) (ends : EndsIn journal call) where
       let same : place ≡ length ends.0 = omega (arith, all, is) in
       ap (slice_get journal) same ∙ ap (λ j. slice_get j (length ends.0)) ends.3 ∙ get_behind ends.0 call _
 
--- ---- what a tenant's grains sent
+-- ---- memory for all turns
 
-pub none_by : (sends : List Send) → first_source sends ≡ None → sends ≡ []
-none_by [] is = refl
-none_by (oldest ∷ others) is = absurd (none-some oldest.source (sym is))
+both_are : (b c : Bool) → (b && c) ≡ true → (b ≡ true) × (c ≡ true)
+both_are true c is = (refl, is)
+both_are false c is = absurd (true≢false (sym is))
 
-module _ (logic : Logic) (setup : Setup) (journal : List Step) (w : Whole) (tenant : List ℕ) (leads : LeadsTo logic setup journal w) where
-  first_by : (source : Grain) (sends : List Send) → first_source sends ≡ Some source → (oldest : Send) × (others : List Send) × (sends ≡ oldest ∷ others) × (oldest.source ≡ source)
-  first_by source [] is = absurd (none-some source is)
-  first_by source (oldest ∷ others) is = (oldest, others, refl, same_Some oldest.source source is)
+pub first_has : (luck : Luck) (lucks : List Luck) (one others : Bool) → (one ≡ true → has_memory luck ≡ true) → (others ≡ true → all_have_memory lucks ≡ true)
+    → (one && others) ≡ true → all_have_memory (luck ∷ lucks) ≡ true
+first_has luck lucks one others first later is =
+    let both = both_are one others is in (λ i. first both.0 i && later both.1 i)
 
-  target_of : (source : Grain) (oldest : Send) (others : List Send) → sends_of (map.get w.accounts tenant) ≡ oldest ∷ others → oldest.source ≡ source
-      → first_target (map.get w.accounts source.tenant) source ≡ Some oldest.message.target
-  target_of source oldest others is same =
-      let own = source_own logic setup tenant oldest others w (journal, leads) is in
-      ap (λ (g : Grain). first_target (map.get w.accounts g.tenant) g) (sym same)
-      ∙ ap (λ t. first_target (map.get w.accounts t) oldest.source) own
-      ∙ target_is logic setup tenant oldest others w is
-
-  pub has_target : (source : Grain) → first_source (sends_of (map.get w.accounts tenant)) ≡ Some source → first_target (map.get w.accounts source.tenant) source ≡ None → ⊥
-  has_target source first none =
-      let found = first_by source (sends_of (map.get w.accounts tenant)) first in
-      none-some found.0.message.target (sym none ∙ target_of source found.0 found.1 found.2 found.3)
-
-  pub oldest_is : (source target : Grain) → first_source (sends_of (map.get w.accounts tenant)) ≡ Some source → first_target (map.get w.accounts source.tenant) source ≡ Some target
-      → IsOldest w tenant (Some (source, target))
-  oldest_is source target first second =
-      let found = first_by source (sends_of (map.get w.accounts tenant)) first in
-      (found.0, found.1, found.2, found.3, same_Some found.0.message.target target (sym (target_of source found.0 found.1 found.2 found.3) ∙ second))
-
-  pub oldest_none : first_source (sends_of (map.get w.accounts tenant)) ≡ None → IsOldest w tenant None
-  oldest_none none = none_by (sends_of (map.get w.accounts tenant)) none
-
-module _ (logic : Logic) (old new : History) (tenant : List ℕ) where
-  pub delivered : (source target : Grain) (done : Bool) → IsOldest old.whole tenant (Some (source, target)) → Brings logic old (Deliver source) (Some target) done new
-      → Delivers logic old tenant true new
-  delivered source target done (oldest, others, is, from, to) brings =
-      let by = whole_stepper logic in (
-        brings.0,
-        subst (λ sends. Tries logic old (delivering by old.whole sends brings.0) new) (sym is)
-            (subst (λ (g : Grain). Tries logic old (bringing by old.whole (Deliver g) (Some oldest.message.target) brings.0) new) (sym from)
-            (subst (λ (g : Grain). Tries logic old (bringing by old.whole (Deliver source) (Some g) brings.0) new) (sym to)
-            (subst (λ s. Tries logic old (bringing by old.whole s (Some target) brings.0) new) (plain brings.0.asking_failed (Deliver source) refl) brings.1))),
-      )
-
--- so many deliveries are left
-pub record Goes (logic : Logic) (n : ℕ) (tenant : List ℕ) (old : History) (left : ℕ) (now : History) : Type 0 where
-  pub done : List Step
-  pub lucks : List Luck
-  pub tries : Tries logic old done now
-  pub rest : (more : List Luck) → deliveries (whole_stepper logic) n old.whole tenant (lucks ++ more) ≡ done ++ deliveries (whole_stepper logic) left now.whole tenant more
-
-module _ (logic : Logic) (n : ℕ) (tenant : List ℕ) (old : History) where
-  abbrev HasDelivered : History → Type 0
-  HasDelivered new = (lucks : List Luck) × Tries logic old (deliveries (whole_stepper logic) n old.whole tenant lucks) new
-
-  goes_none : Goes logic n tenant old n old
-  goes_none = record { done = []; lucks = []; tries = tries_none logic old; rest = λ more. refl }
-
-  pub goes_start : (left : ℕ) → n ≡ left → Goes logic n tenant old left old
-  goes_start left is = subst (λ k. Goes logic n tenant old k old) is goes_none
-
-  goes_on : (left : ℕ) (mid new : History) → Goes logic n tenant old (suc left) mid → Delivers logic mid tenant true new → Goes logic n tenant old left new
-  goes_on left mid new p (luck, tries) =
-      let by = whole_stepper logic in
-      let steps = delivering by mid.whole (sends_of (map.get mid.whole.accounts tenant)) luck in
-      record {
-        done = p.done ++ steps;
-        lucks = p.lucks ++ luck ∷ [];
-        tries = tries_on logic old mid new p.done steps p.tries tries;
-        rest = λ more.
-            ap (λ lucks. deliveries by n old.whole tenant lucks) (append_assoc p.lucks (luck ∷ []) more)
-            ∙ p.rest (luck ∷ more)
-            ∙ ap (λ w. p.done ++ (steps ++ deliveries by left w tenant more)) (sym tries.whole)
-            ∙ sym (append_assoc p.done steps (deliveries by left new.whole tenant more));
-      }
-
-  pub goes_more : (left next : ℕ) (mid new : History) → left ≡ next + 1 → Goes logic n tenant old left mid → Delivers logic mid tenant true new → Goes logic n tenant old next new
-  goes_more left next mid new is p delivers = goes_on next mid new (subst (λ k. Goes logic n tenant old k mid) (is ∙ more_is next) p) delivers
-    where
-      more_is : (k : ℕ) → k + 1 ≡ suc k
-      more_is k = omega arith
-
-  no_more : (k : ℕ) (w : Whole) → sends_of (map.get w.accounts tenant) ≡ [] → deliveries (whole_stepper logic) k w tenant [] ≡ []
-  no_more zero w none = refl
-  no_more (suc k) w none =
-      ap (λ sends. delivering (whole_stepper logic) w sends good ++ deliveries (whole_stepper logic) k (whole_run logic w (delivering (whole_stepper logic) w sends good)) tenant []) none
-      ∙ no_more k w none
-
-  pub goes_nowhere : first_source (sends_of (map.get old.whole.accounts tenant)) ≡ None → HasDelivered old
-  goes_nowhere none = ([], subst (λ steps. Tries logic old steps old) (sym (no_more n old.whole (none_by _ none))) (tries_none logic old))
-
-  pub goes_out : (left : ℕ) (mid new : History) → Goes logic n tenant old left mid → Delivers logic mid tenant false new → HasDelivered new
-  goes_out left mid new p (none, same) =
-      let by = whole_stepper logic in (
-        p.lucks,
-        subst (λ h. Tries logic old (deliveries by n old.whole tenant p.lucks) h) (sym same)
-            (subst (λ steps. Tries logic old steps mid)
-            (sym (ap (λ lucks. deliveries by n old.whole tenant lucks) (sym (append-nil p.lucks)) ∙ p.rest [] ∙ ap (λ ss. p.done ++ ss) (no_more left mid.whole none) ∙ append-nil p.done))
-            p.tries),
-      )
-
-  pub goes_all : (left : ℕ) (new : History) → left ≡ 0 → Goes logic n tenant old left new → HasDelivered new
-  goes_all left new none p =
-      let by = whole_stepper logic in (
-        p.lucks,
-        subst (λ steps. Tries logic old steps new)
-            (sym (ap (λ lucks. deliveries by n old.whole tenant lucks) (sym (append-nil p.lucks)) ∙ p.rest []
-            ∙ ap (λ k. p.done ++ deliveries by k new.whole tenant []) none ∙ append-nil p.done))
-            p.tries,
-      )
+pub last_has : (lucks : List Luck) (luck : Luck) (one others : Bool) → (one ≡ true → has_memory luck ≡ true) → (others ≡ true → all_have_memory lucks ≡ true)
+    → (one && others) ≡ true → all_have_memory (lucks ++ luck ∷ []) ≡ true
+last_has [] luck one others last before is = ap (λ b. b && true) (last (both_are one others is).0)
+last_has (x ∷ lucks) luck one others last before is =
+    let both = both_are one others is in
+    let all = both_are (has_memory x) (all_have_memory lucks) (before both.1) in
+    (λ i. all.0 i && last_has lucks luck one true last (λ _. all.1) (λ j. both.0 j && true) i)
 
 -- ---- all that is asked
 
@@ -486,28 +414,32 @@ asked_plain (Load grain failed) asked = absurd (true≢false (sym asked))
 asked_plain (Store grain turn failed) asked = absurd (true≢false (sym asked))
 asked_plain _ asked = refl
 
-module _ (logic : Logic) (n : ℕ) (old mid new : History) (s : Step) (done : Bool) (brings : Brings logic old s (called_grain s) done mid) where
-  abbrev Answers : Type 0
-  Answers = AnswersAsked logic n old s done new
-
+module _ (logic : Logic) (n : ℕ) (old mid new : History) (s : Step) (done memory : Bool) (brings : Brings logic old s (called_grain s) false done memory mid) where
   -- with the deliveries behind it
-  answers_by : (owner : Option (List ℕ)) (later : List Luck) → owner_of s ≡ owner
-      → Tries logic mid (deliveries_of (whole_stepper logic) n mid.whole owner later) new → Answers
+  answers_by : (owner : Option (List ℕ)) (later : List Luck) → owner_of s ≡ owner → Tries logic mid (deliveries_of (whole_stepper logic) n mid.whole owner later) new
+      → (answers : AnswersAsked logic n old s done new) × (answers.lucks ≡ brings.0 ∷ later)
   answers_by owner later is delivers =
       let by = whole_stepper logic in
-      let steps = bringing by old.whole (taken_by brings.0.asking_failed s) (called_grain s) brings.0 in
-      record {
-        lucks = brings.0 ∷ later;
-        tries = tries_on logic old mid new steps _ brings.1
-            (subst (λ w. Tries logic mid (deliveries_of by n w (owner_of s) later) new) brings.1.whole
-            (subst (λ o. Tries logic mid (deliveries_of by n mid.whole o later) new) (sym is) delivers));
-        possible = brings.2;
-      }
+      let steps = bringing by old.whole (taken_by brings.0.asking_failed s) (called_grain s) brings.0 in (
+        record {
+          lucks = brings.0 ∷ later;
+          tries = tries_on logic old mid new steps _ brings.1
+              (subst (λ w. Tries logic mid (deliveries_of by n w (owner_of s) later) new) brings.1.whole
+              (subst (λ o. Tries logic mid (deliveries_of by n mid.whole o later) new) (sym is) delivers));
+          possible = brings.2;
+        },
+        refl,
+      )
 
   -- a client asked
-  pub answers_client : (caller : Client) → asker_of s ≡ Some caller → (lucks : List Luck) × Tries logic mid (deliveries (whole_stepper logic) n mid.whole caller.tenant lucks) new → Answers
-  answers_client caller is (lucks, tries) = answers_by (Some caller.tenant) lucks (owner_by_asker s caller is) tries
+  pub answers_client : (caller : Client) (had : Bool) → asker_of s ≡ Some caller → HasDelivered logic n caller.tenant mid had new
+      → AnswersBy logic n old s done (memory && had) new
+  answers_client caller had is (lucks, tries, all) =
+      let answers = answers_by (Some caller.tenant) lucks (owner_by_asker s caller is) tries in
+      (answers.0, λ true_both. ap all_have_memory answers.1 ∙ first_has brings.0 lucks memory had brings.3 all true_both)
 
   -- nobody did
-  pub answers_nobody : asker_of s ≡ None → is_asked s ≡ true → new ≡ mid → Answers
-  answers_nobody none asked same = answers_by None [] (nobodys s none asked) (subst (Tries logic mid []) (sym same) (tries_none logic mid))
+  pub answers_nobody : asker_of s ≡ None → is_asked s ≡ true → new ≡ mid → AnswersBy logic n old s done memory new
+  answers_nobody none asked same =
+      let answers = answers_by None [] (nobodys s none asked) (subst (Tries logic mid []) (sym same) (tries_none logic mid)) in
+      (answers.0, λ is. ap all_have_memory answers.1 ∙ ap (λ b. b && true) (brings.3 is))

@@ -14,7 +14,7 @@ use Rattle.line_protocol.specs.Reading.{Reading, AreTaken, AreTakenButOne, left_
 use Rattle.line_protocol.specs.declared.written.WriterCalls.{WriterCalls}
 use Rattle.line_protocol.specs.declared.fault.LineFault.{LineFault}
 use Rattle.line_protocol.specs.declared.fault.LineFault.TheVariants as fault
-use Rattle.answer_model.specs.Answering.{Luck, whole_stepper, machine_stepper, all_answered}
+use Rattle.answer_model.specs.Answering.{Luck, all_answered, all_have_memory, machine_stepper, whole_stepper}
 use Rattle.answer_model.specs.Apart.{asked_by}
 use Rattle.answer_model.specs.Idle.{AllIdle}
 use Rattle.line_answer.specs.Dropped.{Leaves}
@@ -33,6 +33,11 @@ abbrev pub AnswersLine : Logic → ℕ → History → Line → History → List
 AnswersLine logic n old said new text =
     (lucks : List Luck) × Tries logic old (all_steps (whole_stepper logic) n old.whole (asks_by said lucks)) new
     × (text ≡ line_text (whole_stepper logic) n old.whole said lucks) × AllIdle new.whole.entries
+
+-- The same; and there was memory, if so it says, to close the turns that came of it.
+abbrev pub AnswersLineBy : Logic → ℕ → History → Line → Bool → History → List ℕ → Type 0
+AnswersLineBy logic n old said memory new text =
+    (answers : AnswersLine logic n old said new text) × (memory ≡ true → all_have_memory answers.0 ≡ true)
 
 -- So it was for these lines. Each tenant is shown what its own machine is after what the tenant and nobody asked alone; and the texts
 -- of the lines that concern it are what that machine writes for these lines alone, with the same luck.

@@ -6,12 +6,12 @@ use Rattle.silo_event.specs.Failed.{has_failed}
 use Rattle.silo_event.specs.declared.step.Step.{Step}
 use Rattle.silo_event.specs.declared.step.Step.TheVariants.{Begin}
 use Rattle.grain_logic.specs.Logic.{Logic}
-use Rattle.silo_model.specs.Machine.{Entry, Request, Send}
-use Rattle.silo_model.specs.Pending.{sends_of}
+use Rattle.silo_model.specs.Machine.{Entry, Request}
 use Rattle.silo_model.specs.Whole.{Whole, whole_step}
 use Rattle.silo_model.specs.Run.{done_by, whole_run}
 use Rattle.silo_core.specs.History.{History, failed_since}
-use Rattle.answer_model.specs.Answering.{Luck, taken_by, taken, raising, bringing, delivering, answering, whole_stepper}
+use Rattle.answer_model.specs.Answering.{Closing, Luck, all_have_memory, answering, bringing, closing, given_up_if, has_memory, is_closed}
+use Rattle.answer_model.specs.Answering.{out_of_memory, raising, serving, taken, taken_by, whole_stepper}
 
 -- how many of the steps have the mark of a failure
 abbrev pub failed_among : List Step → ℕ
@@ -56,24 +56,29 @@ Opens logic old grain turn new =
     (mid : History) × ((failed : Bool) × Tries logic old (raising (whole_stepper logic) old.whole grain failed) mid)
     × Begins logic mid grain turn new
 
--- The step was taken and the request that it brought was served, with this luck; and whether the step was possible.
-abbrev pub Brings : Logic → History → Step → Option Grain → Bool → History → Type 0
-Brings logic old s grain done new =
-    (luck : Luck) × Tries logic old (bringing (whole_stepper logic) old.whole (taken_by luck.asking_failed s) grain luck) new
-    × (is_possible logic old.whole (taken_by luck.asking_failed s) ≡ done)
+-- how the turn is closed, if it may have to be given up
+abbrev pub closing_if : Bool → Closing → Closing
+closing_if true how = out_of_memory
+closing_if false how = how
 
--- The oldest of what the tenant's grains sent has this source and this target; or there is none.
-abbrev pub IsOldest : Whole → List ℕ → Option (Grain × Grain) → Type 0
-IsOldest w tenant None = sends_of (map.get w.accounts tenant) ≡ []
-IsOldest w tenant (Some found) =
-    (oldest : Send) × (others : List Send) × (sends_of (map.get w.accounts tenant) ≡ oldest ∷ others) × (oldest.source ≡ found.0)
-    × (oldest.message.target ≡ found.1)
+-- The open turn was closed: it was given up if it was to be; and, by the second truth value, there was memory for its end.
+abbrev pub Closes : Logic → History → Grain → ℕ → Bool → Bool → History → Type 0
+Closes logic old grain turn gives_up memory new =
+    (how : Closing) × Tries logic old (closing (whole_stepper logic) old.whole grain turn (closing_if gives_up how)) new
+    × (memory ≡ true → is_closed how ≡ true)
 
--- The oldest of what the tenant's grains sent was delivered; or there is none, and nothing changed.
-abbrev pub Delivers : Logic → History → List ℕ → Bool → History → Type 0
-Delivers logic old tenant true new = (luck : Luck) × Tries logic old
-    (delivering (whole_stepper logic) old.whole (sends_of (map.get old.whole.accounts tenant)) luck) new
-Delivers logic old tenant false new = (sends_of (map.get old.whole.accounts tenant) ≡ []) × (new ≡ old)
+-- The request that waited at the grain was served with some luck, in the same way.
+abbrev pub Serves : Logic → History → Grain → Bool → Bool → History → Type 0
+Serves logic old grain gives_up memory new =
+    (luck : Luck) × Tries logic old (serving (whole_stepper logic) old.whole grain (given_up_if gives_up luck)) new
+    × (memory ≡ true → has_memory luck ≡ true)
+
+-- The step was taken and the request that it brought was served, in the same way; and whether the step was possible.
+abbrev pub Brings : Logic → History → Step → Option Grain → Bool → Bool → Bool → History → Type 0
+Brings logic old s grain gives_up done memory new =
+    (luck : Luck)
+    × Tries logic old (bringing (whole_stepper logic) old.whole (taken_by luck.asking_failed s) grain (given_up_if gives_up luck)) new
+    × (is_possible logic old.whole (taken_by luck.asking_failed s) ≡ done) × (memory ≡ true → has_memory luck ≡ true)
 
 -- A call is the third step from the end, as one is that was served at once last.
 abbrev pub EndsIn : List Step → Step → Type 0
@@ -84,3 +89,8 @@ pub record AnswersAsked (logic : Logic) (n : ℕ) (old : History) (s : Step) (do
   pub lucks : List Luck
   pub tries : Tries logic old (answering (whole_stepper logic) n old.whole (record { step = s; lucks = lucks })) new
   pub possible : is_possible logic old.whole (taken (record { step = s; lucks = lucks })) ≡ done
+
+-- The same; and there was memory, if so it says, to close the turns that came of it.
+abbrev pub AnswersBy : Logic → ℕ → History → Step → Bool → Bool → History → Type 0
+AnswersBy logic n old s done memory new =
+    (answers : AnswersAsked logic n old s done new) × (memory ≡ true → all_have_memory answers.lucks ≡ true)

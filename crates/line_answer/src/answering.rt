@@ -8,9 +8,9 @@ ghost use Rattle.silo_core.specs.Reopening.{ReopensOrNot};
 ghost use Rattle.answer_model.specs.Answering.{is_asked};
 ghost use Rattle.answer_model.specs.Idle.{AllIdle, TellsAsker};
 ghost use Rattle.line_answer.specs.Dropped.{MayDrop};
-ghost use Rattle.line_answer.specs.Trying.{AnswersAsked};
+ghost use Rattle.line_answer.specs.Trying.{AnswersAsked, AnswersBy};
 
-use crate::bringing::answer_step;
+use crate::bringing::{Taken, answer_step};
 use bumpalo::Bump;
 use grain_id::HashSeed;
 use grain_logic::GrainLogic;
@@ -252,8 +252,9 @@ impl<S: GrainStorage, L: GrainLogic> AnsweringSilo<S, L> {
 
     /// Answers what a client asks, a tick or a sweep: its step is taken; if it is a call that is accepted, its grain is
     /// brought up and it is given its turn; and then at most `most` of the requests that the grains of the client's
-    /// tenant sent are delivered, the oldest first, each with its turn. Returns whether the step was possible: only a
-    /// tick may be impossible.
+    /// tenant sent are delivered, the oldest first, each with its turn, until their messages have 262,144 bytes. While more
+    /// than 10,000 of them wait, or messages of more than 1,048,576 bytes, the turns of those that are delivered are given up.
+    /// Returns whether the step was possible: only a tick may be impossible.
     ///
     /// # Errors
     ///
@@ -272,10 +273,11 @@ impl<S: GrainStorage, L: GrainLogic> AnsweringSilo<S, L> {
         ensures stopped { OnErr result (self.new.stopped ≡ true) }
         ensures keeps { self.new.keeps ≡ self.old.keeps }
     {
-        self.answer_in(alloc, &mut Bump::new(alloc), step, most)
+        let taken = self.answer_in(alloc, &mut Bump::new(alloc), step, most)?;
+        Ok(taken.done)
     }
 
-    /// The same, with its turns in this arena.
+    /// The same, with its turns in this arena; and whether there was memory to close them.
     #[tactic(auto, using(crate::proofs::Asked::idle_after))]
     pub(crate) fn answer_in(
         &mut self,
@@ -283,10 +285,10 @@ impl<S: GrainStorage, L: GrainLogic> AnsweringSilo<S, L> {
         bump: &mut Bump,
         step: Step,
         most: u64,
-    ) -> Result<bool, AllocError>
+    ) -> Result<Taken, AllocError>
         requires asked { is_asked step ≡ true }
         requires ready { self.old.stopped ≡ false }
-        ensures answered { IfOk result (λ done. AnswersAsked L.logic most self.old.history step done self.new.history) }
+        ensures answered { IfOk result (λ taken. AnswersBy L.logic most self.old.history step taken.done taken.memory self.new.history) }
         ensures idle { OnOk result (AllIdle self.new.history.whole.entries) }
         ensures told { OnOk result (TellsAsker (asking_of step) self.old.history.whole.replies self.new.history.whole.replies) }
         ensures ready { OnOk result (self.new.stopped ≡ false) }
@@ -296,8 +298,8 @@ impl<S: GrainStorage, L: GrainLogic> AnsweringSilo<S, L> {
         // For the proof: where the journal leads.
         let _ = self.silo.journal();
         self.stopped = true;
-        let done = answer_step(alloc, bump, &mut self.silo, step, most)?;
+        let taken = answer_step(alloc, bump, &mut self.silo, step, most)?;
         self.stopped = false;
-        Ok(done)
+        Ok(taken)
     }
 }

@@ -1,13 +1,16 @@
 //! Steps that may bring a request, which is then served: what a client asks, and what a grain sent.
 
-ghost use Rattle.std.specs.Prelude.{◌≡◌, ◌==◌, false, true, IfOk, List, OnOk, Some, length};
+ghost use Rattle.std.specs.Prelude.{◌≡◌, ◌&&◌, ◌==◌, false, true, IfOk, Some, length};
+ghost use Rattle.std.specs.FinMap as map;
 ghost use Rattle.std.specs.Option.{option_copied};
 ghost use Rattle.grain_id.specs.Names.{Client};
-ghost use Rattle.silo_event.specs.Failed.{has_failed};
-ghost use Rattle.answer_model.specs.Answering.{Luck, called_grain, deliveries, is_asked, whole_stepper};
-ghost use Rattle.line_answer.specs.Trying.{AnswersAsked, Brings, Delivers, EndsIn, IsOldest, Tries};
 ghost use Rattle.silo_event.specs.Asker.{asker_of};
+ghost use Rattle.silo_event.specs.Failed.{has_failed};
 ghost use Rattle.silo_event.specs.declared.step.Step.{Step};
+ghost use Rattle.silo_model.specs.Pending.{sends_of};
+ghost use Rattle.answer_model.specs.Answering.{called_grain, is_asked, too_many_wait};
+ghost use Rattle.line_answer.specs.Delivering.{Delivers, HasDelivered, IsOldest};
+ghost use Rattle.line_answer.specs.Trying.{AnswersBy, Brings, EndsIn};
 
 use crate::serving::{make_free, serve, take};
 use bumpalo::Bump;
@@ -18,8 +21,23 @@ use silo_core::Silo;
 use silo_event::Step;
 use std::alloc::{AllocError, Global};
 
+/// While more calls of a tenant wait to be delivered, or the messages of those that wait have more bytes, the turns of those that are
+/// delivered are given up.
+const WAITING_CALLS: usize = 10_000;
+const WAITING_BYTES: u64 = 1_048_576;
+
+/// Bytes of messages after which no more is delivered behind one line.
+const DELIVERED_BYTES: u64 = 262_144;
+
+/// What became of a step: whether it was possible, and whether there was memory to close the turns that it brought.
+#[derive(Clone, Copy, Debug, PartialEq, Eq)]
+pub struct Taken {
+    pub done: bool,
+    pub memory: bool,
+}
+
 /// Takes a step, and serves the request that it brought to the grain, if it was accepted: then there is no reply to
-/// anybody yet. Returns whether the step was possible.
+/// anybody yet. If the request's turn is to be given up, it is abandoned.
 ///
 /// # Errors
 ///
@@ -30,22 +48,23 @@ fn bring<S: GrainStorage, L: GrainLogic>(
     silo: &mut Silo<S, L>,
     step: Step,
     grain: Option<GrainId>,
-) -> Result<bool, AllocError>
+    gives_up: bool,
+) -> Result<Taken, AllocError>
     requires { has_failed step ≡ false }
-    ensures { IfOk result (λ done. Brings L.logic silo.old step grain done silo.new) }
+    ensures { IfOk result (λ taken. Brings L.logic silo.old step grain gives_up taken.done taken.memory silo.new) }
 {
     let before = told(silo);
     let done = take(alloc, bump, silo, step)?;
     let Some(grain) = grain else {
-        return Ok(done);
+        return Ok(Taken { done, memory: true });
     };
     let after = told(silo);
     if is_same(before, after) {
-        serve(alloc, bump, silo, grain)?;
-        return Ok(done);
+        let memory = serve(alloc, bump, silo, grain, gives_up)?;
+        return Ok(Taken { done, memory });
     }
     drop(grain);
-    Ok(done)
+    Ok(Taken { done, memory: true })
 }
 
 /// How many replies there are.
@@ -55,13 +74,35 @@ fn told<S: GrainStorage, L: GrainLogic>(silo: &Silo<S, L>) -> usize
     silo.replies().len()
 }
 
+fn both(one: bool, other: bool) -> bool
+    ensures { result ≡ (one && other) }
+{
+    one && other
+}
+
 fn is_same(before: usize, after: usize) -> bool
     ensures { result ≡ (after == before) }
 {
     after == before
 }
 
-/// The grain that sent the oldest of what the tenant's grains sent, and its target, if there is one.
+/// The oldest of what a tenant's grains sent: who sent it to whom, how many bytes its message has, and whether its turn is to be given up.
+#[derive(Drop)]
+struct Oldest {
+    source: GrainId,
+    target: GrainId,
+    bytes: u64,
+    gives_up: bool,
+}
+
+/// Whether so much of what the tenant's grains sent waits that turns are to be given up.
+fn too_many_wait<S: GrainStorage, L: GrainLogic>(silo: &Silo<S, L>, tenant: &str) -> bool
+    ensures { result ≡ too_many_wait (sends_of (map.get silo.now.whole.accounts tenant.now)) }
+{
+    silo.sent_calls(tenant) > WAITING_CALLS || silo.sent_bytes(tenant) > WAITING_BYTES
+}
+
+/// The oldest of what the tenant's grains sent, if there is one.
 ///
 /// # Errors
 ///
@@ -69,43 +110,21 @@ fn is_same(before: usize, after: usize) -> bool
 fn oldest<S: GrainStorage, L: GrainLogic>(
     silo: &Silo<S, L>,
     tenant: &str,
-) -> Result<Option<(GrainId, GrainId)>, AllocError>
-    ensures { IfOk result (λ found. IsOldest silo.now.whole tenant.now found) }
+) -> Result<Option<Oldest>, AllocError>
+    ensures { IfOk result (λ found. IsOldest (sends_of (map.get silo.now.whole.accounts tenant.now)) found) }
 {
-    // For the proof: what a tenant's grains sent was sent by grains of its own.
-    let _ = silo.journal();
-    let Some(source) = silo.oldest_sender(tenant) else {
+    let Some(sent) = silo.oldest_sent(tenant) else {
         return Ok(None);
     };
-    let source = source.clone()?;
-    let Some(target) = silo.first_target(&source) else {
-        unreachable!();
-    };
-    let target = target.clone()?;
-    Ok(Some((source, target)))
+    Ok(Some(Oldest {
+        source: sent.source.clone()?,
+        target: sent.target.clone()?,
+        bytes: sent.message.bytes().len() as u64,
+        gives_up: too_many_wait(silo, tenant),
+    }))
 }
 
-/// Delivers the oldest of what the tenant's grains sent, and says whether there was one.
-///
-/// # Errors
-///
-/// Out of memory: some of it may have been done.
-fn deliver_oldest<S: GrainStorage, L: GrainLogic>(
-    alloc: Global,
-    bump: &mut Bump,
-    silo: &mut Silo<S, L>,
-    tenant: &str,
-) -> Result<bool, AllocError>
-    ensures { IfOk result (λ more. Delivers L.logic silo.old tenant.now more silo.new) }
-{
-    let Some(found) = oldest(silo, tenant)? else {
-        return Ok(false);
-    };
-    deliver_found(alloc, bump, silo, tenant, found)?;
-    Ok(true)
-}
-
-/// Delivers the oldest of what the tenant's grains sent.
+/// Delivers the oldest of what the tenant's grains sent. Returns whether there was memory to close its turn.
 ///
 /// # Errors
 ///
@@ -115,23 +134,30 @@ fn deliver_found<S: GrainStorage, L: GrainLogic>(
     bump: &mut Bump,
     silo: &mut Silo<S, L>,
     tenant: &str,
-    found: (GrainId, GrainId),
-) -> Result<(), AllocError>
-    requires { IsOldest silo.old.whole tenant.now (Some found) }
-    ensures { OnOk result (Delivers L.logic silo.old tenant.now true silo.new) }
+    found: Oldest,
+) -> Result<bool, AllocError>
+    requires { IsOldest (sends_of (map.get silo.old.whole.accounts tenant.now)) (Some found) }
+    ensures { IfOk result (λ memory. Delivers L.logic silo.old tenant.now found.bytes memory silo.new) }
 {
-    let (source, target) = found;
-    bring(
+    let Oldest {
+        source,
+        target,
+        gives_up,
+        ..
+    } = found;
+    let taken = bring(
         alloc,
         bump,
         silo,
         Step::Deliver { grain: source },
         Some(target),
+        gives_up,
     )?;
-    Ok(())
+    Ok(taken.memory)
 }
 
-/// Delivers at most `most` of the requests that the tenant's grains sent, the oldest first.
+/// Delivers at most `most` of the requests that the tenant's grains sent, the oldest first, until their messages have 262,144 bytes.
+/// Returns whether there was memory to close their turns.
 ///
 /// # Errors
 ///
@@ -142,16 +168,23 @@ fn deliver<S: GrainStorage, L: GrainLogic>(
     silo: &mut Silo<S, L>,
     tenant: &str,
     most: u64,
-) -> Result<(), AllocError>
-    ensures { OnOk result ((lucks : List Luck) × Tries L.logic silo.old
-        (deliveries (whole_stepper L.logic) most silo.old.whole tenant.now lucks) silo.new) }
+) -> Result<bool, AllocError>
+    ensures { IfOk result (λ memory. HasDelivered L.logic most tenant.now silo.old memory silo.new) }
 {
+    let mut room = DELIVERED_BYTES;
+    let mut memory = true;
     for _ in 0..most {
-        if !deliver_oldest(alloc, bump, silo, tenant)? {
-            return Ok(());
+        if room == 0 {
+            return Ok(memory);
         }
+        let Some(found) = oldest(silo, tenant)? else {
+            return Ok(memory);
+        };
+        room = room.saturating_sub(found.bytes);
+        let had = deliver_found(alloc, bump, silo, tenant, found)?;
+        memory = both(had, memory);
     }
-    Ok(())
+    Ok(memory)
 }
 
 /// Whether a client asks it, or it is the clock or sweeping; and it has no mark of a failure.
@@ -210,7 +243,7 @@ fn last_caller<S: GrainStorage, L: GrainLogic>(silo: &Silo<S, L>) -> Option<&Cal
 }
 
 /// If the last thing done was a client's call that was served at once, delivers at most `most` of the requests that the
-/// grains of the client's tenant sent, the oldest first. Mostly there is none.
+/// grains of the client's tenant sent, the oldest first. Mostly there is none. Returns whether there was memory to close their turns.
 ///
 /// # Errors
 ///
@@ -220,16 +253,15 @@ fn deliver_behind<S: GrainStorage, L: GrainLogic>(
     bump: &mut Bump,
     silo: &mut Silo<S, L>,
     most: u64,
-) -> Result<(), AllocError>
-    ensures { OnOk result ((call : Step) (caller : Client) → EndsIn silo.old.journal call → asker_of call ≡ Some caller
-        → (lucks : List Luck) × Tries L.logic silo.old (deliveries (whole_stepper L.logic) most silo.old.whole caller.tenant lucks)
-        silo.new) }
+) -> Result<bool, AllocError>
+    ensures { IfOk result (λ memory. (call : Step) (caller : Client) → EndsIn silo.old.journal call → asker_of call ≡ Some caller
+        → HasDelivered L.logic most caller.tenant silo.old memory silo.new) }
 {
     let Some(caller) = last_caller(silo) else {
-        return Ok(());
+        return Ok(true);
     };
     let Some(_source) = silo.oldest_sender(caller.tenant()) else {
-        return Ok(());
+        return Ok(true);
     };
     let caller = caller.clone()?;
     let delivered = deliver(alloc, bump, silo, caller.tenant(), most);
@@ -248,23 +280,26 @@ fn answer_by_steps<S: GrainStorage, L: GrainLogic>(
     silo: &mut Silo<S, L>,
     step: Step,
     most: u64,
-) -> Result<bool, AllocError>
+) -> Result<Taken, AllocError>
     requires { is_asked step ≡ true }
-    ensures { IfOk result (λ done. AnswersAsked L.logic most silo.old step done silo.new) }
+    ensures { IfOk result (λ taken. AnswersBy L.logic most silo.old step taken.done taken.memory silo.new) }
 {
     let asker = asker_of(&step)?;
     let grain = called_grain(&step)?;
-    let done = bring(alloc, bump, silo, step, grain)?;
+    let taken = bring(alloc, bump, silo, step, grain, false)?;
     let Some(caller) = asker else {
-        return Ok(done);
+        return Ok(taken);
     };
-    deliver(alloc, bump, silo, caller.tenant(), most)?;
+    let memory = deliver(alloc, bump, silo, caller.tenant(), most)?;
     drop(caller);
-    Ok(done)
+    Ok(Taken {
+        done: taken.done,
+        memory: both(taken.memory, memory),
+    })
 }
 
 /// Answers what a client asks, a tick or a sweep, followed by at most `most` deliveries: a call is mostly served at
-/// once. Returns whether the step was possible. Turns run in the arena, one after another.
+/// once. Turns run in the arena, one after another.
 ///
 /// # Errors
 ///
@@ -275,14 +310,14 @@ pub fn answer_step<S: GrainStorage, L: GrainLogic>(
     silo: &mut Silo<S, L>,
     step: Step,
     most: u64,
-) -> Result<bool, AllocError>
+) -> Result<Taken, AllocError>
     requires { is_asked step ≡ true }
-    ensures { IfOk result (λ done. AnswersAsked L.logic most silo.old step done silo.new) }
+    ensures { IfOk result (λ taken. AnswersBy L.logic most silo.old step taken.done taken.memory silo.new) }
 {
     let Some(back) = silo.serve_at_once(alloc, bump, step) else {
         make_free(bump);
-        deliver_behind(alloc, bump, silo, most)?;
-        return Ok(true);
+        let memory = deliver_behind(alloc, bump, silo, most)?;
+        return Ok(Taken { done: true, memory });
     };
     answer_by_steps(alloc, bump, silo, back, most)
 }

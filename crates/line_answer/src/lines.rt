@@ -1,11 +1,11 @@
 //! What one line leaves in the silo, and its text.
 
-ghost use Rattle.std.specs.Prelude.{◌≡◌, ◌++◌, ◌≤◌, false, OnOk, drop, length, string_bytes};
+ghost use Rattle.std.specs.Prelude.{◌≡◌, ◌++◌, ◌≤◌, false, IfOk, OnOk, drop, length, string_bytes};
 ghost use Rattle.line_protocol.specs.LineTexts.{ended, texts_of};
 ghost use Rattle.line_protocol.specs.Text.{refusal_line};
 ghost use Rattle.line_parser.specs.Meaning.{meaning_of};
 ghost use Rattle.line_parser.specs.declared.line.Line.TheVariants as line;
-ghost use Rattle.line_answer.specs.Runs.{AnswersLine};
+ghost use Rattle.line_answer.specs.Runs.{AnswersLineBy};
 
 use crate::answering::AnsweringSilo;
 use crate::bringing::is_asked;
@@ -40,7 +40,7 @@ fn push_new(
 }
 
 /// Answers a step that a line says, and puts its text in place of another: the replies that it added, or that it isn't
-/// possible now. A step that is no client's to ask is refused as no request.
+/// possible now. A step that is no client's to ask is refused as no request. Returns whether there was memory to close its turns.
 #[tactic(auto, using(crate::proofs::Asked::asked_line))]
 fn answer_said<S: GrainStorage, L: GrainLogic>(
     alloc: Global,
@@ -49,9 +49,10 @@ fn answer_said<S: GrainStorage, L: GrainLogic>(
     step: Step,
     most: u64,
     text: &mut String,
-) -> Result<(), AllocError>
+) -> Result<bool, AllocError>
     requires { silo.old.stopped ≡ false }
-    ensures ok { OnOk result (AnswersLine L.logic most silo.old.history (line.Step step) silo.new.history (string_bytes text.new)) }
+    ensures ok { IfOk result (λ memory. AnswersLineBy L.logic most silo.old.history (line.Step step) memory silo.new.history
+        (string_bytes text.new)) }
     ensures ready { OnOk result (silo.new.stopped ≡ false) }
     ensures keeps { silo.new.keeps ≡ silo.old.keeps }
 {
@@ -62,18 +63,21 @@ fn answer_said<S: GrainStorage, L: GrainLogic>(
     if !is_asked(&step) {
         drop(step);
         refuse(alloc, text, LineRefusal::NotARequest)?;
-        return Ok(());
+        return Ok(true);
     }
     let before = silo.replies().len();
-    if silo.answer_in(alloc, bump, step, most)? {
+    let taken = silo.answer_in(alloc, bump, step, most)?;
+    if taken.done {
         push_new(alloc, text, silo.replies(), before)?;
-        return Ok(());
+        return Ok(taken.memory);
     }
     push_not_now(text)?;
-    text.push_str("\n")
+    text.push_str("\n")?;
+    Ok(taken.memory)
 }
 
-/// Answers what a line says, and puts its text in place of another. Turns run in the arena.
+/// Answers what a line says, and puts its text in place of another. Turns run in the arena. Returns whether there was memory to close
+/// them: a turn for which there is none is abandoned.
 ///
 /// # Errors
 ///
@@ -87,9 +91,10 @@ pub fn answer_line<S: GrainStorage, L: GrainLogic>(
     most: u64,
     line: &[u8],
     text: &mut String,
-) -> Result<(), AllocError>
+) -> Result<bool, AllocError>
     requires { silo.old.stopped ≡ false }
-    ensures ok { OnOk result (AnswersLine L.logic most silo.old.history (meaning_of line.now) silo.new.history (string_bytes text.new)) }
+    ensures ok { IfOk result (λ memory. AnswersLineBy L.logic most silo.old.history (meaning_of line.now) memory silo.new.history
+        (string_bytes text.new)) }
     ensures ready { OnOk result (silo.new.stopped ≡ false) }
     ensures keeps { silo.new.keeps ≡ silo.old.keeps }
 {
@@ -98,12 +103,12 @@ pub fn answer_line<S: GrainStorage, L: GrainLogic>(
     match read_line(alloc, scratch, line)? {
         Line::Nothing => {
             text.clear();
-            Ok(())
+            Ok(true)
         }
         Line::Refusal(refusal) => {
             text.clear();
             refuse(alloc, text, refusal)?;
-            Ok(())
+            Ok(true)
         }
         Line::Step(step) => answer_said(alloc, bump, silo, step, most, text),
     }

@@ -1,9 +1,10 @@
 //! One request that was accepted: its grain is brought up, and it is given its turn.
 
-ghost use Rattle.std.specs.Prelude.{◌≡◌, ◌∷◌, Bool, false, IfOk, OnErr, OnOk};
+ghost use Rattle.std.specs.Prelude.{◌≡◌, ◌∷◌, [], Bool, false, IfOk, OnErr, OnOk};
 ghost use Rattle.silo_event.specs.Failed.{has_failed};
-ghost use Rattle.answer_model.specs.Answering.{Closing, Luck, closing, ending, raising, serving, whole_stepper};
-ghost use Rattle.line_answer.specs.Trying.{Begins, Opens, TakesNow, Tries};
+ghost use Rattle.silo_event.specs.declared.step.Step.TheVariants.{Abandon};
+ghost use Rattle.answer_model.specs.Answering.{ending, raising, whole_stepper};
+ghost use Rattle.line_answer.specs.Trying.{Begins, Closes, Opens, Serves, TakesNow, Tries};
 
 use bumpalo::Bump;
 use grain_id::GrainId;
@@ -141,7 +142,25 @@ fn end<S: GrainStorage, L: GrainLogic>(
     Ok(())
 }
 
-/// Closes an open turn. If there is no memory for its end, it is abandoned.
+/// Abandons an open turn.
+///
+/// # Errors
+///
+/// Out of memory: nothing changed.
+fn abandon<S: GrainStorage, L: GrainLogic>(
+    alloc: Global,
+    bump: &Bump,
+    silo: &mut Silo<S, L>,
+    grain: GrainId,
+    turn: u64,
+) -> Result<(), AllocError>
+    ensures { OnOk result (Tries L.logic silo.old (Abandon grain turn ∷ []) silo.new) }
+{
+    take(alloc, bump, silo, Step::Abandon { grain, turn })?;
+    Ok(())
+}
+
+/// Closes an open turn. If it is to be given up, or if there is no memory for its end, it is abandoned. Returns whether there was memory.
 ///
 /// # Errors
 ///
@@ -152,18 +171,22 @@ fn close<S: GrainStorage, L: GrainLogic>(
     silo: &mut Silo<S, L>,
     grain: GrainId,
     turn: u64,
-) -> Result<(), AllocError>
-    ensures { OnOk result ((how : Closing) × Tries L.logic silo.old
-        (closing (whole_stepper L.logic) silo.old.whole grain turn how) silo.new) }
+    gives_up: bool,
+) -> Result<bool, AllocError>
+    ensures { IfOk result (λ memory. Closes L.logic silo.old grain turn gives_up memory silo.new) }
 {
+    if gives_up {
+        abandon(alloc, bump, silo, grain, turn)?;
+        return Ok(true);
+    }
     match end(alloc, bump, silo, &grain, turn) {
         Ok(()) => {
             drop(grain);
-            Ok(())
+            Ok(true)
         }
         Err(AllocError) => {
-            take(alloc, bump, silo, Step::Abandon { grain, turn })?;
-            Ok(())
+            abandon(alloc, bump, silo, grain, turn)?;
+            Ok(false)
         }
     }
 }
@@ -176,7 +199,8 @@ pub fn make_free(bump: &mut Bump) {
     }
 }
 
-/// Serves the request that waits at the grain. Its turn runs in the arena, on which `make_free` is called afterwards.
+/// Serves the request that waits at the grain; if its turn is to be given up, it is abandoned. Its turn runs in the arena, on which
+/// `make_free` is called afterwards. Returns whether there was memory to close the turn.
 ///
 /// # Errors
 ///
@@ -186,14 +210,15 @@ pub fn serve<S: GrainStorage, L: GrainLogic>(
     bump: &mut Bump,
     silo: &mut Silo<S, L>,
     grain: GrainId,
-) -> Result<(), AllocError>
-    ensures { OnOk result ((luck : Luck) × Tries L.logic silo.old (serving (whole_stepper L.logic) silo.old.whole grain luck) silo.new) }
+    gives_up: bool,
+) -> Result<bool, AllocError>
+    ensures { IfOk result (λ memory. Serves L.logic silo.old grain gives_up memory silo.new) }
 {
     let Some(turn) = open(alloc, bump, silo, &grain)? else {
         drop(grain);
-        return Ok(());
+        return Ok(true);
     };
-    close(alloc, bump, silo, grain, turn)?;
+    let memory = close(alloc, bump, silo, grain, turn, gives_up)?;
     make_free(bump);
-    Ok(())
+    Ok(memory)
 }

@@ -1,3 +1,4 @@
 -- For contracts of parts and for proofs. No promise of the silo, of journals or of the program stands on it.
 pub mod Buffers
 pub mod ValueText
+pub mod Standing

@@ -3,7 +3,7 @@
 ghost use Rattle.std.specs.Prelude.{◌≡◌, false, [], ◌∷◌, OnOk, string_bytes};
 ghost use Rattle.log_answer.specs.Answers.{LeadsOn};
 
-use crate::well::all_went_well;
+use crate::well::all_stored;
 use bumpalo::Bump;
 use grain_logic::GrainLogic;
 use grain_storage::GrainStorage;
@@ -35,7 +35,8 @@ impl LineTools {
 ///
 /// # Errors
 ///
-/// Out of memory; or a call of the storage failed, or a turn was abandoned. What the silo holds then isn't specified.
+/// Out of memory; or a call of the storage failed, or a turn was abandoned since there was no memory for its end. What the silo holds then
+/// isn't specified.
 pub(crate) fn answer_well<S: GrainStorage, L: GrainLogic>(
     alloc: Global,
     tools: &mut LineTools,
@@ -50,7 +51,7 @@ pub(crate) fn answer_well<S: GrainStorage, L: GrainLogic>(
     ensures keeps { silo.new.keeps ≡ silo.old.keeps }
 {
     let before = silo.journal().len();
-    answer_line(
+    let memory = answer_line(
         alloc,
         &mut tools.bump,
         &mut tools.scratch,
@@ -60,7 +61,7 @@ pub(crate) fn answer_well<S: GrainStorage, L: GrainLogic>(
         &mut tools.text,
     )?;
     let (_, new) = silo.journal().split_at(before);
-    if all_went_well(new) {
+    if memory && all_stored(new) {
         silo.note(alloc, line.len());
         Ok(())
     } else {

@@ -3,7 +3,7 @@ use Rattle.std.specs.Prelude.{IsUtf8}
 use Rattle.std.proofs.lemmas.Str.{IsUtf8-append, IsUtf8-string_bytes}
 use Rattle.json.specs.Print.{print}
 use Rattle.line_protocol.proofs.Pushes.{quoted_after}
-use Rattle.line_protocol.proofs.text.push_quoted.Goals as goal
+use Rattle.line_protocol.proofs.text.push_escaped.Goals as goal
 
 pub text_of_bytes-requires : goal.text_of_bytes-requires
 text_of_bytes-requires c =
