@@ -23,22 +23,17 @@ use std::marker::Model;
 
 mod resumed;
 
-/// What a step counts as in a history. It takes some five times that: where a few lines make many calls that wait to be delivered,
-/// opening again soon would make everybody wait.
+/// What a step counts as in a history. It takes some five times that.
 const STEP_WEIGHT: u64 = 8;
 
 /// Bytes that a reply takes in a history beside those of its state, about.
 const REPLY_WEIGHT: u64 = 64;
 
-/// Bytes that a row, or an active grain, takes in the lists with which a silo opens again, about.
+/// Bytes that a row, an active grain, or a call that waits to be delivered takes in the lists with which a silo opens again, about.
 const LISTED_WEIGHT: u64 = 256;
 
-/// What a call that waits to be delivered counts as there. It is much more than it takes: opening again with many of them makes
-/// everybody wait.
-const SEND_WEIGHT: u64 = 16_384;
-
 /// A history of fewer bytes isn't dropped.
-const LEAST_HISTORY: u64 = 16_777_216;
+const LEAST_HISTORY: u64 = 4_194_304;
 
 /// The given bytes and those that the replies take in a history, about.
 fn weighed_with(bytes: u64, replies: &[Reply]) -> u64 {
@@ -55,13 +50,11 @@ fn weighed_with(bytes: u64, replies: &[Reply]) -> u64 {
 
 /// What that many rows, and what is kept, weigh in the lists with which a silo opens again.
 fn weight_of(rows: u64, kept: &KeptParts) -> u64 {
-    let mut sends: u64 = 0;
+    let mut listed = rows.saturating_add(kept.grains.len() as u64);
     for account in kept.accounts.iter() {
-        sends = sends.saturating_add(account.sends.len() as u64);
+        listed = listed.saturating_add(account.sends.len() as u64);
     }
-    rows.saturating_add(kept.grains.len() as u64)
-        .saturating_mul(LISTED_WEIGHT)
-        .saturating_add(sends.saturating_mul(SEND_WEIGHT))
+    listed.saturating_mul(LISTED_WEIGHT)
 }
 
 /// A silo in which nothing waits and nothing is open, unless it stopped for want of memory. It keeps its history, or drops it
@@ -168,9 +161,9 @@ impl<S: GrainStorage, L: GrainLogic> AnsweringSilo<S, L> {
     }
 
     /// Notes that a line of `bytes` bytes was answered. A history that needn't be kept is dropped once its lines and replies,
-    /// those to grains too, take about 16 MB, where a step counts as 8 bytes, and no less than lists of its rows and of the
-    /// grains that are active, and 16 kB for each call that waits to be delivered: the silo opens again where it is. If
-    /// memory is refused for that, the history stays until it is 16 MB larger.
+    /// those to grains too, take about 4 MB, where a step counts as 8 bytes, and no less than lists of its rows, of the
+    /// grains that are active, and of the calls that wait to be delivered: the silo opens again where it is. If memory is
+    /// refused for that, the history stays until it is 4 MB larger.
     pub fn note(&mut self, alloc: Global, bytes: usize)
         ensures history { MayDrop self.old.keeps self.old.history self.new.history }
         ensures stopped { self.new.stopped ≡ self.old.stopped }
