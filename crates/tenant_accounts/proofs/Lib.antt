@@ -3,6 +3,7 @@ pub mod Walks
 pub mod Tables
 pub mod Queues
 pub mod Takes
+pub mod SentBytes
 pub mod Senders
 pub mod Numbers
 pub mod KeptParts

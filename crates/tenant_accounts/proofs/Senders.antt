@@ -12,12 +12,17 @@ use Rattle.grain_id.specs.Names.{text_cmp}
 use Rattle.tenant_accounts.specs.Kept.{Account}
 use Rattle.tenant_accounts.specs.Sends.{sends_of}
 use Rattle.tenant_accounts.specs.inside.Accounts.{by_bytes}
-use Rattle.tenant_accounts.specs.Sends.{first_source, send_of}
+use Rattle.tenant_accounts.specs.Sends.{first_send, first_source, send_of}
 use Rattle.tenant_accounts.specs.declared.account.Sent.{Sent}
 use Rattle.tenant_accounts.proofs.AccountMaps.{get-by_bytes}
 use Rattle.tenant_accounts.proofs.Walks.{HoldsBelow, of_all}
 
 -- what is kept first was sent first
+pub first_call : (es : List (ℕ × Sent)) (k : ℕ) (s : Sent) → slice_get es 0 ≡ Some (k, s) → first_send (map_list (λ e. send_of e.1) es) ≡ Some (send_of s)
+first_call [] k s at = absurd (none-some (k, s) at)
+first_call (e ∷ es) k s at = ap (λ (x : ℕ × Sent). Some (send_of x.1)) (same_Some e (k, s) at)
+
+-- and its grain is the first
 pub first_kept : (es : List (ℕ × Sent)) (k : ℕ) (s : Sent) → slice_get es 0 ≡ Some (k, s) → first_source (map_list (λ e. send_of e.1) es) ≡ Some s.source
 first_kept [] k s at = absurd (none-some (k, s) at)
 first_kept (e ∷ es) k s at = ap (λ (x : ℕ × Sent). Some x.1.source) (same_Some e (k, s) at)

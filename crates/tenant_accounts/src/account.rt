@@ -40,7 +40,8 @@ impl Sent {
 /// grains sent, in order.
 ///
 /// What was sent is kept by numbers that rise, and an index has the numbers of each grain's own: so
-/// the first of a grain is found by two look-ups, however much was sent.
+/// the first of a grain is found by two look-ups, however much was sent. How many bytes the messages
+/// have is counted as they come and go.
 #[derive(Drop)]
 pub struct Account {
     limits: Limits,
@@ -48,15 +49,16 @@ pub struct Account {
     pub(crate) sends: BTreeMap<u64, Sent>,
     index: BTreeMap<GrainId, VecDeque<u64>>,
     next: u64,
+    bytes: u64,
 }
 
 impl Model for Account {
-    ghost use Rattle.std.specs.Prelude.{◌≤◌, map};
+    ghost use Rattle.std.specs.Prelude.{◌≡◌, ◌≤◌, map};
     ghost use Rattle.std.specs.Coded.{codes};
     ghost use Rattle.request_codec.specs.Code.{coded_tree};
     ghost use Rattle.tenant_accounts.specs.Kept as kept;
     ghost use Rattle.tenant_accounts.specs.Kept.{last_number};
-    ghost use Rattle.tenant_accounts.specs.Sends.{send_of};
+    ghost use Rattle.tenant_accounts.specs.Sends.{send_of, sent_bytes};
     ghost use Rattle.tenant_accounts.specs.inside.Undelivered.{IsIndexed};
 
     ghost Value = { kept.Account };
@@ -65,7 +67,8 @@ impl Model for Account {
 
     ghost view = { λ a. record { limits = a.limits; count = a.count; sends = map (λ e. send_of e.1) a.sends.entries } };
 
-    ghost invariant = { λ a. (a.count ≤ last_number) × IsIndexed a.sends.entries a.index a.next };
+    ghost invariant = { λ a. (a.count ≤ last_number) × IsIndexed a.sends.entries a.index a.next × (a.bytes ≡ sent_bytes (map (λ e. send_of
+        e.1) a.sends.entries)) };
 }
 
 impl Account {
@@ -79,6 +82,7 @@ impl Account {
             sends: BTreeMap::new(alloc),
             index: BTreeMap::new(alloc),
             next: 0,
+            bytes: 0,
         }
     }
 

@@ -1,12 +1,12 @@
 //! What there is to do at a grain without a client requesting it. Each of these is a look-up, and takes no memory.
 
-ghost use Rattle.std.specs.Prelude.{◌≡◌, option_map};
+ghost use Rattle.std.specs.Prelude.{◌≡◌, length, option_map};
 ghost use Rattle.std.specs.FinMap as map;
 ghost use Rattle.std.specs.Option.{option_copied};
 ghost use Rattle.silo_model.specs.Sends.{first_target};
 ghost use Rattle.silo_model.specs.Pending.{sends_of};
 ghost use Rattle.silo_model.specs.Todo.{work_on};
-ghost use Rattle.tenant_accounts.specs.Sends.{first_source};
+ghost use Rattle.tenant_accounts.specs.Sends.{first_send, first_source, send_of, sent_bytes};
 ghost use Rattle.silo_state.specs.Work.{first_waiting, step_at, is_settled};
 
 use crate::silo::Silo;
@@ -14,6 +14,7 @@ use grain_id::GrainId;
 use grain_logic::GrainLogic;
 use grain_storage::GrainStorage;
 use silo_state::PossibleStep;
+use tenant_accounts::Sent;
 
 impl<S: GrainStorage, L: GrainLogic> Silo<S, L> {
     /// What is to do with the grain's activation, if anything is.
@@ -42,6 +43,27 @@ impl<S: GrainStorage, L: GrainLogic> Silo<S, L> {
         ensures { option_copied result ≡ first_source (sends_of (map.get self.now.whole.accounts tenant.now)) }
     {
         self.state.oldest_sender(tenant)
+    }
+
+    /// The oldest of what the tenant's grains sent, and is not yet delivered.
+    pub fn oldest_sent(&self, tenant: &str) -> Option<&Sent>
+        ensures { option_map send_of (option_copied result) ≡ first_send (sends_of (map.get self.now.whole.accounts tenant.now)) }
+    {
+        self.state.oldest_sent(tenant)
+    }
+
+    /// How many calls the tenant's grains sent, of those that are not yet delivered.
+    pub fn sent_calls(&self, tenant: &str) -> usize
+        ensures { result ≡ length (sends_of (map.get self.now.whole.accounts tenant.now)) }
+    {
+        self.state.sent_calls(tenant)
+    }
+
+    /// How many bytes the messages of all these calls have together.
+    pub fn sent_bytes(&self, tenant: &str) -> u64
+        ensures { result ≡ sent_bytes (sends_of (map.get self.now.whole.accounts tenant.now)) }
+    {
+        self.state.sent_bytes(tenant)
     }
 
     /// Whether no request waits at the grain, and no turn of it is open.

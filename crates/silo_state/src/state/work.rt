@@ -1,7 +1,7 @@
 //! What there is to do without a client requesting it: at a grain, which is a look-up, and at any, which is a walk.
 //! None of these takes memory.
 
-ghost use Rattle.std.specs.Prelude.{◌≡◌, ◌↔◌, true, None, Some, IfNone, IfSome, IsTrue, option_map};
+ghost use Rattle.std.specs.Prelude.{◌≡◌, ◌↔◌, true, None, Some, IfNone, IfSome, IsTrue, length, option_map};
 ghost use Rattle.std.specs.FinMap as map;
 ghost use Rattle.std.specs.Option.{option_copied};
 ghost use Rattle.grain_id.specs.Names.{Grain};
@@ -10,13 +10,14 @@ ghost use Rattle.silo_model.specs.Pending.{has_pending, sends_of};
 ghost use Rattle.silo_model.specs.Todo.{work_on};
 ghost use Rattle.silo_model.specs.Whole.{shown_to};
 ghost use Rattle.silo_state.specs.Work.{first_waiting, step_at, is_settled};
-ghost use Rattle.tenant_accounts.specs.Sends.{HasSent, NothingSent, first_source};
+ghost use Rattle.tenant_accounts.specs.Sends.{HasSent, NothingSent, first_send, first_source, send_of, sent_bytes};
 
 use crate::change::PossibleStep;
 use crate::state::SiloState;
 use grain_id::{Caller, GrainId};
 use grain_logic::GrainLogic;
 use grain_storage::GrainStorage;
+use tenant_accounts::Sent;
 
 impl<S: GrainStorage, L: GrainLogic> SiloState<S, L> {
     /// What is to do with the grain's activation, if anything is: at most one of the three is
@@ -55,6 +56,36 @@ impl<S: GrainStorage, L: GrainLogic> SiloState<S, L> {
             return None;
         };
         account.first_sender()
+    }
+
+    /// The oldest of what the tenant's grains sent, and is not yet delivered.
+    pub fn oldest_sent(&self, tenant: &str) -> Option<&Sent>
+        ensures { option_map send_of (option_copied result) ≡ first_send (sends_of (map.get self.now.whole.accounts tenant.now)) }
+    {
+        let Some(account) = self.accounts.get(tenant) else {
+            return None;
+        };
+        account.first()
+    }
+
+    /// How many calls the tenant's grains sent, of those that are not yet delivered.
+    pub fn sent_calls(&self, tenant: &str) -> usize
+        ensures { result ≡ length (sends_of (map.get self.now.whole.accounts tenant.now)) }
+    {
+        let Some(account) = self.accounts.get(tenant) else {
+            return 0;
+        };
+        account.sent_calls()
+    }
+
+    /// How many bytes the messages of all these calls have together.
+    pub fn sent_bytes(&self, tenant: &str) -> u64
+        ensures { result ≡ sent_bytes (sends_of (map.get self.now.whole.accounts tenant.now)) }
+    {
+        let Some(account) = self.accounts.get(tenant) else {
+            return 0;
+        };
+        account.sent_bytes()
     }
 
     /// Whether no request waits at the grain, and no turn of it is open.

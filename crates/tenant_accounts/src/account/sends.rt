@@ -1,8 +1,8 @@
 //! What a tenant's grains sent, and is not yet delivered.
 
-ghost use Rattle.std.specs.Prelude.{◌≡◌, ◌∷◌, [], ◌++◌, ◌-◌, OnOk, OnErr, length, map, take};
+ghost use Rattle.std.specs.Prelude.{◌≡◌, ◌∷◌, [], ◌++◌, ◌-◌, OnOk, OnErr, length, map, option_map, take};
 ghost use Rattle.std.specs.Option.{option_copied};
-ghost use Rattle.tenant_accounts.specs.Sends.{first_source, send_of};
+ghost use Rattle.tenant_accounts.specs.Sends.{first_send, first_source, message_bytes, send_of, sent_bytes};
 ghost use Rattle.tenant_accounts.specs.inside.Deliveries.{FindsFirst, without_first};
 
 use crate::account::{Account, Sent, index};
@@ -31,12 +31,38 @@ impl Account {
         Some(&sent.source)
     }
 
+    /// What was sent first, if anything is left.
+    pub fn first(&self) -> Option<&Sent>
+        ensures { option_map send_of (option_copied result) ≡ first_send self.now.sends }
+    {
+        let Some((_, sent)) = self.sends.first_key_value() else {
+            return None;
+        };
+        Some(sent)
+    }
+
+    /// How many calls are left. Takes the same time however many there are.
+    pub fn sent_calls(&self) -> usize
+        ensures { result ≡ length self.now.sends }
+    {
+        self.sends.len()
+    }
+
+    /// How many bytes the messages of all that is left have. Takes the same time however many there are.
+    pub fn sent_bytes(&self) -> u64
+        ensures { result ≡ sent_bytes self.now.sends }
+    {
+        self.bytes
+    }
+
     /// The first call that the grain sent is taken out. Takes no memory.
     pub(crate) fn take_first(&mut self, grain: &GrainId)
         ensures { self.new ≡ record self.old { sends = without_first grain.now self.old.sends } }
     {
         if let Some(number) = index::take_first(&mut self.index, grain) {
-            drop(self.sends.remove(&number));
+            if let Some(sent) = self.sends.remove(&number) {
+                self.bytes -= message_bytes(&sent);
+            }
         }
     }
 
@@ -76,11 +102,16 @@ impl Account {
             drop(sent);
             return Err(AllocError);
         };
+        let Some(bytes) = self.bytes.checked_add(message_bytes(&sent)) else {
+            drop(sent);
+            return Err(AllocError);
+        };
         index::add_last(alloc, &mut self.index, &sent.source, number)?;
         match self.sends.insert(number, sent) {
             Ok(replaced) => {
                 drop(replaced);
                 self.next = next;
+                self.bytes = bytes;
                 Ok(())
             }
             Err(refused) => {
@@ -107,6 +138,14 @@ impl Account {
     {
         if let Some((_, sent)) = self.sends.pop_last() {
             let _ = index::take_last(&mut self.index, &sent.source);
+            self.bytes -= message_bytes(&sent);
         }
     }
+}
+
+/// How many bytes the message has.
+fn message_bytes(sent: &Sent) -> u64
+    ensures { result ≡ message_bytes (send_of sent.now) }
+{
+    sent.message.bytes().len() as u64
 }
