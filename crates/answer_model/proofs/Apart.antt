@@ -8,8 +8,8 @@ use Rattle.silo_event.specs.declared.reply.Party.TheVariants as party
 use Rattle.silo_model.proofs.EffectKinds.{role_of}
 use Rattle.silo_model.proofs.Isolation.{place_in}
 use Rattle.silo_model.proofs.Journals.{runs_on}
-use Rattle.answer_model.specs.Answering.{Asked, Luck, Stepper, all_answered, answered, answering, bringing, called_grain, deliveries}
-use Rattle.answer_model.specs.Answering.{deliveries_of, first_luck, later_luck, machine_stepper, taken, taken_by, whole_stepper}
+use Rattle.answer_model.specs.Answering.{Asked, Luck, Stepper, all_answered, answered, answering, bringing, called_grain, delivered_bytes}
+use Rattle.answer_model.specs.Answering.{deliveries, deliveries_of, first_luck, later_luck, machine_stepper, taken, taken_by, whole_stepper}
 use Rattle.answer_model.specs.Apart.{TenantsApart, asked_by}
 use Rattle.answer_model.proofs.Owned.{AllOwned, other_run, own_run}
 use Rattle.answer_model.proofs.Reached.{IsReached, run_reached}
@@ -73,10 +73,10 @@ module _ (logic : Logic) (setup : Setup) (n : ℕ) where
         let steps = bringing of_whole w s grain luck in
         let first = same_bringing logic setup tenant w s luck reached is grain (call_own asked.step luck is) in
         let next = whole_run logic w steps in
-        let rest = same_deliveries logic setup tenant n next (later_luck asked.lucks) (run_reached logic setup steps w reached) in
+        let rest = same_deliveries logic setup tenant n delivered_bytes next (later_luck asked.lucks) (run_reached logic setup steps w reached) in
         let shown : shown_to tenant next ≡ machine_run logic (shown_to tenant w) (bringing of_machine (shown_to tenant w) s grain luck) = own_run logic setup w reached tenant steps first.1 ∙ ap (machine_run logic (shown_to tenant w)) first.0 in (
           ap (λ o. steps ++ deliveries_of of_whole n next o (later_luck asked.lucks)) own
-              ∙ (λ i. first.0 i ++ (rest.0 ∙ ap (λ m. deliveries of_machine n m tenant (later_luck asked.lucks)) shown) i)
+              ∙ (λ i. first.0 i ++ (rest.0 ∙ ap (λ m. deliveries of_machine n delivered_bytes m tenant (later_luck asked.lucks)) shown) i)
               ∙ ap (λ o. bringing of_machine (shown_to tenant w) s grain luck ++ deliveries_of of_machine n (machine_run logic (shown_to tenant w) (bringing of_machine (shown_to tenant w) s grain luck)) o (later_luck asked.lucks)) (sym own),
           all_append (λ s. owner_of s ≡ Some tenant) steps _ first.1 (subst (λ o. AllOwned tenant (deliveries_of of_whole n next o (later_luck asked.lucks))) (sym own) rest.1),
         )

@@ -7,14 +7,16 @@ use Rattle.silo_model.proofs.Common.{false, false_from_ne_true, gate, get-insert
 use Rattle.silo_model.proofs.Common.{inr, keep, length, nat_cmp, none-some, owner_of, poke_settled, poked, refl, reply_to, row_poked}
 use Rattle.silo_model.proofs.Common.{row_told, same_Some, sends_of, shown_to, spent, spread, stale, subst, suc, sym, told, true, unwrap_or}
 use Rattle.silo_model.proofs.Common.{whole_run, whole_step, with_request, zero, ℕ}
+use Rattle.std.specs.Prelude.{◌-◌}
 use Rattle.std.specs.FinMap as map
 use Rattle.silo_event.specs.declared.reply.Party.TheVariants as party
 use Rattle.silo_model.proofs.EffectKinds.{asks, role_of}
 use Rattle.silo_model.proofs.Isolation.{did, place_in, shared_by}
 use Rattle.silo_model.proofs.Runs.{whole_after, whole_run-append}
 use Rattle.silo_model.proofs.SharedSteps.{shared_leaves}
-use Rattle.answer_model.specs.Answering.{Asked, Luck, Stepper, answered, bringing, called_grain, deliveries, deliveries_of, delivering}
-use Rattle.answer_model.specs.Answering.{first_luck, is_accepted, is_asked, later_luck, serving, serving_if, taken, taken_by, whole_stepper}
+use Rattle.answer_model.specs.Answering.{Asked, Luck, Stepper, answered, bringing, called_grain, delivered_bytes, deliveries, deliveries_of}
+use Rattle.answer_model.specs.Answering.{delivering, first_luck, given_up_if, is_accepted, is_asked, later_luck, oldest_bytes, serving}
+use Rattle.answer_model.specs.Answering.{serving_if, taken, taken_by, too_many_wait, whole_stepper}
 use Rattle.answer_model.specs.Idle.{AllIdle, AllToGrains, AnsweredAtOnce, TellsAsker}
 use Rattle.answer_model.proofs.Apart.{asking_taken, owner_failed}
 use Rattle.silo_model.proofs.Tests.{either_way, on_found}
@@ -201,19 +203,22 @@ module _ (logic : Logic) (setup : Setup) (tenant : List ℕ) where
   delivering_goes w (oldest ∷ others) luck reached idle is =
       let s = Deliver oldest.source in
       let own = source_own logic setup tenant oldest others w reached is in
-      let settled = if_done logic w idle luck s (Some oldest.message.target) (party.Grain oldest.source) (is_delivered logic setup tenant oldest others w own is)
-      (λ after step. settles_asking logic w idle s luck after step tenant (party.Grain oldest.source) (Some oldest.message.target) (ap Some own) refl (target_is logic setup tenant oldest others w is)) in
+      let how = given_up_if (too_many_wait (oldest ∷ others)) luck in
+      let settled = if_done logic w idle how s (Some oldest.message.target) (party.Grain oldest.source) (is_delivered logic setup tenant oldest others w own is)
+      (λ after step. settles_asking logic w idle s how after step tenant (party.Grain oldest.source) (Some oldest.message.target) (ap Some own) refl (target_is logic setup tenant oldest others w is)) in
       record { idle = settled.idle; others = settled.added; replies = settled.replies; to_grains = grains_alone oldest.source settled.added settled.about }
 
-  deliveries_go : (n : ℕ) (w : Whole) (lucks : List Luck) → IsReached logic setup w → AllIdle w.entries
-      → Goes w (whole_run logic w (deliveries (whole_stepper logic) n w tenant lucks))
-  deliveries_go zero w lucks reached idle = record { idle = idle; others = []; replies = sym (append-nil w.replies); to_grains = tt }
-  deliveries_go (suc n) w lucks reached idle =
+  deliveries_go : (n room : ℕ) (w : Whole) (lucks : List Luck) → IsReached logic setup w → AllIdle w.entries
+      → Goes w (whole_run logic w (deliveries (whole_stepper logic) n room w tenant lucks))
+  deliveries_go zero room w lucks reached idle = record { idle = idle; others = []; replies = sym (append-nil w.replies); to_grains = tt }
+  deliveries_go (suc n) zero w lucks reached idle = record { idle = idle; others = []; replies = sym (append-nil w.replies); to_grains = tt }
+  deliveries_go (suc n) (suc room) w lucks reached idle =
+      let left = suc room - oldest_bytes (sends_of (map.get w.accounts tenant)) in
       let steps = delivering (whole_stepper logic) w (sends_of (map.get w.accounts tenant)) (first_luck lucks) in
       let first = delivering_goes w (sends_of (map.get w.accounts tenant)) (first_luck lucks) reached idle refl in
       let next = whole_run logic w steps in
-      let rest = deliveries_go n next (later_luck lucks) (run_reached logic setup steps w reached) first.idle in
-      subst (Goes w) (sym (whole_run-append logic w steps (deliveries (whole_stepper logic) n next tenant (later_luck lucks))))
+      let rest = deliveries_go n left next (later_luck lucks) (run_reached logic setup steps w reached) first.idle in
+      subst (Goes w) (sym (whole_run-append logic w steps (deliveries (whole_stepper logic) n left next tenant (later_luck lucks))))
       (record {
         idle = rest.idle;
         others = first.others ++ rest.others;
@@ -244,8 +249,8 @@ module _ (logic : Logic) (setup : Setup) (n : ℕ) (w : Whole) (reached : IsReac
       let steps = bringing (whole_stepper logic) w (taken asked) (called_grain asked.step) luck in
       let first = asked_settles logic w idle luck asked.step asking is in
       let next = whole_run logic w steps in
-      let rest = deliveries_go logic setup asking.0.tenant n next (later_luck asked.lucks) (run_reached logic setup steps w reached) first.idle in
-      let last : answered (whole_stepper logic) n w asked ≡ whole_run logic next (deliveries (whole_stepper logic) n next asking.0.tenant (later_luck asked.lucks))
+      let rest = deliveries_go logic setup asking.0.tenant n delivered_bytes next (later_luck asked.lucks) (run_reached logic setup steps w reached) first.idle in
+      let last : answered (whole_stepper logic) n w asked ≡ whole_run logic next (deliveries (whole_stepper logic) n delivered_bytes next asking.0.tenant (later_luck asked.lucks))
       = whole_run-append logic w steps (deliveries_of (whole_stepper logic) n next (owner_of asked.step) (later_luck asked.lucks))
       ∙ ap (λ o. whole_run logic next (deliveries_of (whole_stepper logic) n next o (later_luck asked.lucks))) (owner_by_asking asked.step asking is) in
       let what = client_told asking.0 asking.1 first.added first.about in (

@@ -8,3 +8,4 @@ pub mod Raised
 pub mod Idle
 pub mod Certain
 pub mod Untold
+pub mod Waiting

@@ -4,6 +4,7 @@ use Rattle.silo_model.proofs.Common.{List, Load, Logic, Machine, None, Option, P
 use Rattle.silo_model.proofs.Common.{[], ap, arith, cond, delivery_of, eq-eqb, eqb-true, false, first_from, first_target, grain_eq_decides}
 use Rattle.silo_model.proofs.Common.{is_some, length, length-append, machine_run, machine_step, none-some, option_map, owner_of, refl}
 use Rattle.silo_model.proofs.Common.{same_Some, sends_of, shown_to, subst, suc, sym, true, unwrap_or, whole_run, whole_step, zero, ℕ}
+use Rattle.std.specs.Prelude.{◌-◌}
 use Rattle.std.specs.FinMap as map
 use Rattle.silo_event.specs.declared.reply.Party.TheVariants as party
 use Rattle.silo_model.proofs.Contexts.{shown_account, shown_own}
@@ -14,8 +15,9 @@ use Rattle.silo_model.proofs.OwnSends.{sends_are_own}
 use Rattle.silo_model.proofs.Runs.{machine_after, whole_after}
 use Rattle.silo_model.proofs.SendSteps.{by_called}
 use Rattle.answer_model.specs.Answering.{Closing, Luck, Stepper, bringing, can, closing, deliveries, delivering, ending, first_luck}
-use Rattle.answer_model.specs.Answering.{is_accepted, later_luck, machine_stepper, out_of_memory, raising, run, serving, serving_if}
-use Rattle.answer_model.specs.Answering.{storage_failed, turn_of, turn_of_first, turning, well, whole_stepper}
+use Rattle.answer_model.specs.Answering.{given_up_if, is_accepted, later_luck, machine_stepper, oldest_bytes, out_of_memory, raising, run}
+use Rattle.answer_model.specs.Answering.{serving, serving_if, storage_failed, too_many_wait, turn_of, turn_of_first, turning, well}
+use Rattle.answer_model.specs.Answering.{whole_stepper}
 use Rattle.answer_model.proofs.Brought.{Waits, accepted_waits, brings, it_waits}
 use Rattle.answer_model.proofs.Owned.{AllOwned, own_run}
 use Rattle.answer_model.proofs.Reached.{IsReached, run_reached, step_reached}
@@ -204,7 +206,7 @@ module _ (logic : Logic) (setup : Setup) (tenant : List ℕ) where
 
   module _ (oldest : Send) (others : List Send) where
     -- the account that has it, where it is found first
-    account_of : (w : Whole) → IsOldest w oldest others
+    pub account_of : (w : Whole) → IsOldest w oldest others
         → (a : Account) × (map.get w.accounts tenant ≡ Some a) × (first_from oldest.source a.sends ≡ Some (oldest, others))
     account_of w =
         on_found
@@ -238,31 +240,39 @@ module _ (logic : Logic) (setup : Setup) (tenant : List ℕ) where
   same_delivering w (oldest ∷ others) luck reached is =
       let s = Deliver oldest.source in
       let own = source_own oldest others w reached is in
-      same_bringing w s luck reached (ap Some own) (Some oldest.message.target)
-      (own_if_accepted w s luck reached (ap Some own) (party.Grain oldest.source) (Some oldest.message.target) refl (target_is oldest others w is) (is_delivered oldest others w own is))
+      let how = given_up_if (too_many_wait (oldest ∷ others)) luck in
+      same_bringing w s how reached (ap Some own) (Some oldest.message.target)
+      (own_if_accepted w s how reached (ap Some own) (party.Grain oldest.source) (Some oldest.message.target) refl (target_is oldest others w is) (is_delivered oldest others w own is))
 
-  pub same_deliveries : (n : ℕ) (w : Whole) (lucks : List Luck) → IsReached logic setup w
-      → (deliveries of_whole n w tenant lucks ≡ deliveries of_machine n (shown_to tenant w) tenant lucks) × AllOwned tenant (deliveries of_whole n w tenant lucks)
-  same_deliveries zero w lucks reached = (refl, tt)
-  same_deliveries (suc n) w lucks reached =
+  pub same_deliveries : (n room : ℕ) (w : Whole) (lucks : List Luck) → IsReached logic setup w
+      → (deliveries of_whole n room w tenant lucks ≡ deliveries of_machine n room (shown_to tenant w) tenant lucks)
+      × AllOwned tenant (deliveries of_whole n room w tenant lucks)
+  same_deliveries zero room w lucks reached = (refl, tt)
+  same_deliveries (suc n) zero w lucks reached = (refl, tt)
+  same_deliveries (suc n) (suc room) w lucks reached =
       let sends = sends_of (map.get w.accounts tenant) in
       let luck = first_luck lucks in
       let steps = delivering of_whole w sends luck in
       let first = same_delivering w sends luck reached refl in
       let next = whole_run logic w steps in
-      let rest = same_deliveries n next (later_luck lucks) (run_reached logic setup steps w reached) in (
-        (λ i. first.0 i ++ rest.0 i) ∙ the_machines w n lucks steps first.0 first.1 reached,
-        all_append (λ s. owner_of s ≡ Some tenant) steps (deliveries of_whole n next tenant (later_luck lucks)) first.1 rest.1,
+      let left = suc room - oldest_bytes sends in
+      let rest = same_deliveries n left next (later_luck lucks) (run_reached logic setup steps w reached) in (
+        (λ i. first.0 i ++ rest.0 i) ∙ the_machines w n room lucks steps first.0 first.1 reached,
+        all_append (λ s. owner_of s ≡ Some tenant) steps (deliveries of_whole n left next tenant (later_luck lucks)) first.1 rest.1,
       )
     where
-      the_machines : (w : Whole) (n : ℕ) (lucks : List Luck) (steps : List Step)
+      the_machines : (w : Whole) (n room : ℕ) (lucks : List Luck) (steps : List Step)
           → steps ≡ delivering of_machine (shown_to tenant w) (sends_of (map.get w.accounts tenant)) (first_luck lucks) → AllOwned tenant steps → IsReached logic setup w
-          → delivering of_machine (shown_to tenant w) (sends_of (map.get w.accounts tenant)) (first_luck lucks) ++ deliveries of_machine n (shown_to tenant (whole_run logic w steps)) tenant (later_luck lucks)
-          ≡ deliveries of_machine (suc n) (shown_to tenant w) tenant lucks
-      the_machines w n lucks steps same own reached =
+          → delivering of_machine (shown_to tenant w) (sends_of (map.get w.accounts tenant)) (first_luck lucks)
+          ++ deliveries of_machine n (suc room - oldest_bytes (sends_of (map.get w.accounts tenant))) (shown_to tenant (whole_run logic w steps)) tenant (later_luck lucks)
+          ≡ deliveries of_machine (suc n) (suc room) (shown_to tenant w) tenant lucks
+      the_machines w n room lucks steps same own reached =
           let m = shown_to tenant w in
           let sends = sends_of (map.get w.accounts tenant) in
-          ap (λ k. delivering of_machine m sends (first_luck lucks) ++ deliveries of_machine n k tenant (later_luck lucks))
+          ap (λ k. delivering of_machine m sends (first_luck lucks) ++ deliveries of_machine n (suc room - oldest_bytes sends) k tenant (later_luck lucks))
           (own_run logic setup w reached tenant steps own ∙ ap (machine_run logic m) same)
-          ∙ ap (λ a. delivering of_machine m (sends_of a) (first_luck lucks) ++ deliveries of_machine n (machine_run logic m (delivering of_machine m (sends_of a) (first_luck lucks))) tenant (later_luck lucks))
+          ∙ ap
+          (λ a.
+          delivering of_machine m (sends_of a) (first_luck lucks)
+          ++ deliveries of_machine n (suc room - oldest_bytes (sends_of a)) (machine_run logic m (delivering of_machine m (sends_of a) (first_luck lucks))) tenant (later_luck lucks))
           (sym (shown_account w tenant))

@@ -1,18 +1,19 @@
 -- What is done for what is asked depends on no reply that was made before.
-use Rattle.silo_model.proofs.Common.{if◌then◌else◌, ◌++◌, ◌+◌, ◌==◌, ◌∙◌, ◌∷◌, ◌≡◌, Activate, Begin, Bool, Deliver, End, Entry, Grain, List, Load, Logic}
-use Rattle.silo_model.proofs.Common.{None, Option, Reply, Request, Send, Some, Step, Store, Whole, [], ap, arith, eq-eqb, eqb-true, false}
-use Rattle.silo_model.proofs.Common.{is_some, is_some-option_map, length, length-append, option_map, refl, sends_of, suc, sym, true, unwrap_or}
-use Rattle.silo_model.proofs.Common.{whole_run, whole_step, zero, ℕ}
+use Rattle.silo_model.proofs.Common.{if◌then◌else◌, ◌++◌, ◌==◌, ◌∙◌, ◌∷◌, ◌≡◌, Activate, Begin, Bool, Deliver, End, Entry, Grain, List}
+use Rattle.silo_model.proofs.Common.{Load, Logic, None, Option, Reply, Request, Send, Some, Step, Store, Whole, [], ap, arith, eq-eqb}
+use Rattle.silo_model.proofs.Common.{eqb-true, false, is_some, is_some-option_map, length, length-append, option_map, refl, sends_of, suc}
+use Rattle.silo_model.proofs.Common.{true, unwrap_or, whole_run, whole_step, zero, ℕ}
+use Rattle.std.specs.Prelude.{◌-◌}
 use Rattle.std.specs.FinMap as map
 use Rattle.silo_event.specs.Owner.{owner_of}
 use Rattle.silo_model.specs.Run.{done_by, if_possible}
 use Rattle.silo_model.specs.Segments.{told_before}
 use Rattle.silo_model.proofs.Framed.{framed_step}
 use Rattle.finite_maps.proofs.Values.{same_answer}
-use Rattle.answer_model.specs.Answering.{Asked, Closing, Luck, Stepper, all_answered, answered, answering, bringing, called_grain, can, closing}
-use Rattle.answer_model.specs.Answering.{deliveries, deliveries_of, delivering, ending, first_luck, is_accepted, later_luck, out_of_memory}
-use Rattle.answer_model.specs.Answering.{raising, run, serving, serving_if, storage_failed, taken, turn_of, turn_of_first, turning, well}
-use Rattle.answer_model.specs.Answering.{whole_stepper}
+use Rattle.answer_model.specs.Answering.{Asked, Closing, Luck, Stepper, all_answered, answered, answering, bringing, called_grain, can}
+use Rattle.answer_model.specs.Answering.{closing, delivered_bytes, deliveries, deliveries_of, delivering, ending, first_luck, given_up_if}
+use Rattle.answer_model.specs.Answering.{is_accepted, later_luck, oldest_bytes, out_of_memory, raising, serving, serving_if, storage_failed}
+use Rattle.answer_model.specs.Answering.{taken, too_many_wait, turn_of, turn_of_first, turning, well, whole_stepper}
 use Rattle.answer_model.specs.Untold.{AnswersAsEver}
 
 module _ (logic : Logic) (rs : List Reply) where
@@ -116,21 +117,25 @@ module _ (logic : Logic) (rs : List Reply) where
 
   delivering_told : (w : Whole) (sends : List Send) (luck : Luck) → delivering by (told w) sends luck ≡ delivering by w sends luck
   delivering_told w [] luck = refl
-  delivering_told w (oldest ∷ others) luck = bringing_told w (Deliver oldest.source) (Some oldest.message.target) luck
+  delivering_told w (oldest ∷ others) luck =
+      bringing_told w (Deliver oldest.source) (Some oldest.message.target) (given_up_if (too_many_wait (oldest ∷ others)) luck)
 
-  deliveries_told : (n : ℕ) (w : Whole) (tenant : List ℕ) (lucks : List Luck) → deliveries by n (told w) tenant lucks ≡ deliveries by n w tenant lucks
-  deliveries_told zero w tenant lucks = refl
-  deliveries_told (suc n) w tenant lucks =
+  deliveries_told : (n room : ℕ) (w : Whole) (tenant : List ℕ) (lucks : List Luck)
+      → deliveries by n room (told w) tenant lucks ≡ deliveries by n room w tenant lucks
+  deliveries_told zero room w tenant lucks = refl
+  deliveries_told (suc n) zero w tenant lucks = refl
+  deliveries_told (suc n) (suc room) w tenant lucks =
       let sends = sends_of (map.get w.accounts tenant) in
+      let left = suc room - oldest_bytes sends in
       let steps = delivering by w sends (first_luck lucks) in
-      ap (λ made. made ++ deliveries by n (whole_run logic (told w) made) tenant (later_luck lucks)) (delivering_told w sends (first_luck lucks))
-      ∙ ap (λ v. steps ++ deliveries by n v tenant (later_luck lucks)) (run_told steps w)
-      ∙ ap (λ rest. steps ++ rest) (deliveries_told n (whole_run logic w steps) tenant (later_luck lucks))
+      ap (λ made. made ++ deliveries by n left (whole_run logic (told w) made) tenant (later_luck lucks)) (delivering_told w sends (first_luck lucks))
+      ∙ ap (λ v. steps ++ deliveries by n left v tenant (later_luck lucks)) (run_told steps w)
+      ∙ ap (λ rest. steps ++ rest) (deliveries_told n left (whole_run logic w steps) tenant (later_luck lucks))
 
   deliveries_of_told : (n : ℕ) (w : Whole) (owner : Option (List ℕ)) (lucks : List Luck)
       → deliveries_of by n (told w) owner lucks ≡ deliveries_of by n w owner lucks
   deliveries_of_told n w None lucks = refl
-  deliveries_of_told n w (Some owner) lucks = deliveries_told n w owner lucks
+  deliveries_of_told n w (Some owner) lucks = deliveries_told n delivered_bytes w owner lucks
 
   -- ---- all that is asked
 

@@ -3,3 +3,4 @@ pub mod Apart
 pub mod Idle
 pub mod Certain
 pub mod Untold
+pub mod Waiting

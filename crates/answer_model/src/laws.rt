@@ -2,9 +2,10 @@
 //! nothing, so that it is proved with the crate.
 
 ghost use Rattle.answer_model.specs.Apart.{TenantsApart};
-ghost use Rattle.answer_model.specs.Certain.{AnsweredCertainly};
+ghost use Rattle.answer_model.specs.Certain.{AnsweredCertainly, AnsweredSurely};
 ghost use Rattle.answer_model.specs.Idle.{AnsweredAtOnce};
 ghost use Rattle.answer_model.specs.Untold.{AnswersAsEver};
+ghost use Rattle.answer_model.specs.Waiting.{NoneAdded};
 
 /// What a silo that answers each request at once shows to each tenant is what the tenant's own machine
 /// is after what the tenant and nobody asked alone.
@@ -26,9 +27,23 @@ pub fn answered_certainly()
     ensures { AnsweredCertainly }
 {}
 
+/// So it is if the storage didn't fail and no turn was given up for want of memory: a turn that is given up since too
+/// many calls wait, or messages of too many bytes, is given up with good luck too.
+#[tactic(auto, using(crate::proofs::Certain::answered_surely))]
+pub fn answered_surely()
+    ensures { AnsweredSurely }
+{}
+
 /// A silo that dropped its replies answers as it would have answered with them: nothing that is done for what is asked
 /// depends on a reply that was made before.
 #[tactic(auto, using(crate::proofs::Untold::answers_as_ever))]
 pub fn answers_as_ever()
     ensures { AnswersAsEver }
+{}
+
+/// While more calls of a tenant wait than may, or messages of more bytes, a call that is delivered adds none: the others
+/// that wait are left, and nothing else.
+#[tactic(auto, using(crate::proofs::Waiting::none_added))]
+pub fn none_added()
+    ensures { NoneAdded }
 {}
