@@ -1,8 +1,8 @@
 -- What is known of what was told.
 use Rattle.std.specs.Prelude.{◌≡◌, ◌⊎◌, ℕ, List, Option, string_bytes, true}
 use Rattle.std.specs.Io.KnownBytes.{Appends, Keeps}
-use Rattle.line_protocol.specs.LineRuns.{WrittenInPart}
-use Rattle.line_protocol.specs.declared.written.WriterCalls.{WriterCalls}
+use Rattle.line_text.specs.Writing.{WrittenInPart}
+use Rattle.line_text.specs.declared.written.WriterCalls.{WriterCalls}
 use Rattle.command_parts.specs.declared.failure.End.{End}
 use Rattle.command_parts.specs.declared.failure.End.TheVariants as end
 

@@ -1,7 +1,7 @@
 //! A reader whose calls are counted.
 
 ghost use Rattle.std.specs.Prelude.{◌≡◌, ◌↔◌, ◌≤◌, IfErr, IfOk, IfSome};
-ghost use Rattle.line_protocol.specs.Limits.{calls_limit};
+ghost use Rattle.line_text.specs.Limits.{calls_limit};
 
 use crate::files::{FileFault, fault_of};
 use std::alloc::Global;

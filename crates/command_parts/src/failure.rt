@@ -6,7 +6,7 @@ ghost use Rattle.std.specs.IoError.{error_kind};
 ghost use Rattle.command_parts.specs.Streams.{BreaksOff, Tells, TellsEnd};
 ghost use Rattle.command_parts.specs.Status.{cause_of, end_status, failure_text, status_of, told_text};
 
-use line_protocol::{LineFault, Output};
+use line_text::{LineFault, Output};
 use std::io::{self, ErrorKind, Write};
 use thiserror::Error;
 

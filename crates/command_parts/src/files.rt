@@ -2,7 +2,7 @@
 
 ghost use Rattle.std.specs.Prelude.{◌≡◌, ◌≢◌, ◌↔◌, ◌⊎◌, ⊤, ℕ, List, [], IfOk, IfErr, None, OnOk, OnErr, IsErrOf, string_bytes, true};
 
-use line_protocol::Output;
+use line_text::Output;
 use log_host::{HostFault, LogFiles, LogHost, MemoryLog, OpenFault};
 use std::alloc::Global;
 use std::io::{self, ErrorKind, Write};

@@ -6,7 +6,7 @@ use crate::failure::say_bytes;
 use crate::files::DataFiles;
 use crate::host_files::HostFiles;
 use host_log::{DataFolder, FolderFault};
-use line_protocol::Output;
+use line_text::Output;
 use log_host::{HostFault, LogFiles, LogHost, OpenFault};
 use std::alloc::Global;
 use std::fs::File;

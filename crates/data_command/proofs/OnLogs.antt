@@ -7,8 +7,8 @@ use Rattle.silo_model.specs.Opening.{Setup}
 use Rattle.silo_model.specs.Whole.{Whole}
 use Rattle.silo_core.specs.History.{History}
 use Rattle.answer_model.specs.Idle.{AllIdle}
-use Rattle.line_protocol.specs.Reading.{IsFresh, Reading, left_of}
-use Rattle.line_protocol.proofs.LinesOfBytes.{left_of-fresh}
+use Rattle.line_text.specs.Reading.{IsFresh, Reading, left_of}
+use Rattle.line_text.proofs.LinesOfBytes.{left_of-fresh}
 use Rattle.line_answer.specs.Dropped.{MayDrop}
 use Rattle.log_host.specs.Acts.{Act, Held}
 use Rattle.log_host.specs.Lasting.{LastsFrom}

@@ -5,8 +5,8 @@ use Rattle.std.specs.Io.KnownBytes.{IsAtEnd}
 use Rattle.silo_model.specs.Opening.{Setup, opening}
 use Rattle.silo_model.specs.Whole.{Whole}
 use Rattle.silo_core.specs.History.{History}
-use Rattle.line_protocol.specs.Reading.{IsFresh, Reading, left_of}
-use Rattle.line_protocol.proofs.LinesOfBytes.{left_of-fresh}
+use Rattle.line_text.specs.Reading.{IsFresh, Reading, left_of}
+use Rattle.line_text.proofs.LinesOfBytes.{left_of-fresh}
 use Rattle.log_text.specs.Head.{first_sum, name_of, words_text}
 use Rattle.log_text.specs.Reading.{left_in}
 use Rattle.log_text.specs.Sums.{own_sums}

@@ -13,8 +13,8 @@ use Rattle.log_host.specs.Acts.{Act, Held}
 use Rattle.log_host.specs.Laws.{restarted}
 use Rattle.log_host.specs.declared.place.LogPlace.{LogPlace}
 use Rattle.log_host.proofs.Starts.{starts_settled}
-use Rattle.line_protocol.specs.Lines.{lines_of}
-use Rattle.line_protocol.specs.Reading.{Reading}
+use Rattle.line_text.specs.Lines.{lines_of}
+use Rattle.line_text.specs.Reading.{Reading}
 use Rattle.log_host.specs.Lasting.{LastsFrom}
 use Rattle.log_answer.specs.Answers.{silo_log}
 use Rattle.log_answer.specs.Runs.{AnswersPart, GoesFrom, GoesOn, RunsOn, StopsLogged}

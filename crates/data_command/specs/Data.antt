@@ -4,7 +4,7 @@ use Rattle.silo_model.specs.Opening.{Setup, opening}
 use Rattle.silo_model.specs.Segments.{untold}
 use Rattle.silo_model.specs.Whole.{Whole}
 use Rattle.silo_core.specs.History.{History}
-use Rattle.line_protocol.specs.Reading.{Reading}
+use Rattle.line_text.specs.Reading.{Reading}
 use Rattle.log_text.specs.Lines.{whole_lines}
 use Rattle.log_text.specs.Head.{IsNumber, first_sum, form_line, head_text, name_of}
 use Rattle.log_text.specs.Sums.{spelled}

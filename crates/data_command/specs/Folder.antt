@@ -11,7 +11,7 @@ use Rattle.silo_model.specs.Opening.{Setup, opening}
 use Rattle.silo_model.specs.Segments.{resumed}
 use Rattle.silo_state.specs.KeptParts.{MayResume, kept_in}
 use Rattle.silo_state.specs.declared.parts.KeptParts.{KeptParts}
-use Rattle.line_protocol.specs.Reading.{Reading}
+use Rattle.line_text.specs.Reading.{Reading}
 use Rattle.log_text.specs.Lines.{whole_lines}
 use Rattle.log_text.specs.Head.{IsNumber, head_text}
 use Rattle.log_text.specs.Sums.{spelled}

@@ -1,6 +1,6 @@
 -- Logs that follow one another in a run: a checkpoint took the place of each but the last.
 use Rattle.std.specs.Prelude.{◌≡◌, ◌⊎◌, ◌++◌, ℕ, List, [], ◌∷◌, IfSome, Option, Some}
-use Rattle.line_protocol.specs.Lines.{lines_of}
+use Rattle.line_text.specs.Lines.{lines_of}
 use Rattle.log_host.specs.Files.{IsAt}
 use Rattle.log_host.specs.Laws.{restarted}
 use Rattle.log_answer.specs.Runs.{KeepsLines}

@@ -2,7 +2,7 @@
 
 ghost use Rattle.std.specs.Prelude.{◌≡◌, [], false, true, IfErr, IfOk, OnErr, OnOk, Some, option_map};
 ghost use Rattle.silo_model.specs.Opening.{opening};
-ghost use Rattle.line_protocol.specs.Reading.{IsFresh};
+ghost use Rattle.line_text.specs.Reading.{IsFresh};
 ghost use Rattle.command_parts.specs.Setups.{started, starting, version_of};
 ghost use Rattle.data_command.specs.Data.{AnswersData, DataFailsBy, log_claims};
 ghost use Rattle.data_command.specs.Passing.{RunCuts, RunHas, RunLasts};
@@ -21,7 +21,7 @@ use command_parts::{Cause, DataFiles};
 use grain_logic::GrainLogic;
 use grain_storage::MemoryStorage;
 use line_answer::AnsweringSilo;
-use line_protocol::{Input, LineReader, Output};
+use line_text::{Input, LineReader, Output};
 use log_answer::{LogFault, RunFrom, answer_logged};
 use silo_words::Data;
 use std::alloc::{AllocError, Global};

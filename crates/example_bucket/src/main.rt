@@ -2,7 +2,7 @@
 //! that does. Its kind is in `bucket`.
 #![tactic(auto)]
 
-ghost use Rattle.line_protocol.specs.Reading.{IsFresh};
+ghost use Rattle.line_text.specs.Reading.{IsFresh};
 
 mod bucket;
 
@@ -11,7 +11,7 @@ use command_parts::{Cause, HostFiles, ProgramFault, Start, WholeFiles, refuse_wo
 use grain_id::HashSeed;
 use host_writing::LimitedWriter;
 use line_commands::answer_input;
-use line_protocol::{Input, Output};
+use line_text::{Input, Output};
 use silo_words::{Task, WordsFault, read_ages, read_tenants, read_words};
 use std::alloc::Global;
 use std::fs::File;

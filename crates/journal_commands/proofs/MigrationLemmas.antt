@@ -9,7 +9,7 @@ use Rattle.journal_text.specs.JournalAnswers.{IsMigrated}
 use Rattle.tenant_audit.specs.Reading.{NamesNewer}
 use Rattle.journal_commands.specs.Migrating.{IsMigrationFault, MayMigrateTo, MigratesFile}
 use Rattle.command_parts.specs.declared.failure.ProgramFault.{ProgramFault}
-use Rattle.line_protocol.specs.declared.written.WriterCalls.{WriterCalls}
+use Rattle.line_text.specs.declared.written.WriterCalls.{WriterCalls}
 use Rattle.command_parts.specs.declared.failure.Cause.TheVariants as cause
 use Rattle.command_parts.specs.declared.failure.End.TheVariants as end
 use Rattle.command_parts.specs.declared.failure.ProgramFault.TheVariants as fault

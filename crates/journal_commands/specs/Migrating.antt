@@ -1,7 +1,7 @@
 -- What `silo migrate` reads, and what it writes of it.
 use Rattle.std.specs.Prelude.{ℕ, List, Option, string_bytes}
 use Rattle.std.specs.Io.KnownBytes.{Appends, Keeps}
-use Rattle.line_protocol.specs.declared.written.WriterCalls.{WriterCalls}
+use Rattle.line_text.specs.declared.written.WriterCalls.{WriterCalls}
 use Rattle.journal_text.specs.JournalAnswers.{IsMigrated}
 use Rattle.tenant_audit.specs.Reading.{NamesNewer}
 use Rattle.journal_commands.specs.Auditing.{RefusesFile}

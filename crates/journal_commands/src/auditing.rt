@@ -2,7 +2,7 @@
 
 ghost use Rattle.std.specs.Prelude.{◌≡◌, false, ℕ, List, Option, IfOk, IfErr, OnOk};
 ghost use Rattle.std.specs.Io.KnownBytes.{Appends};
-ghost use Rattle.line_protocol.specs.declared.written.WriterCalls.{WriterCalls};
+ghost use Rattle.line_text.specs.declared.written.WriterCalls.{WriterCalls};
 ghost use Rattle.journal_text.specs.JournalAnswers.{IsJournalText};
 ghost use Rattle.grain_kinds.specs.Versions.{IsVersion};
 ghost use Rattle.grain_kinds.specs.Kinds.{logic_of};
@@ -12,7 +12,7 @@ ghost use Rattle.journal_commands.specs.Auditing.{IsWritingCause, MayHoldJournal
 
 use command_parts::{Cause, End, FileFault, ProgramFault, WholeFiles, say};
 use grain_id::HashSeed;
-use line_protocol::Output;
+use line_text::Output;
 use std::alloc::Global;
 use std::io::Write;
 use std::sync::Wait;

@@ -2,7 +2,7 @@
 
 ghost use Rattle.std.specs.Prelude.{◌≡◌, false, ℕ, List, Option, IfErr, IfOk, OnOk};
 ghost use Rattle.std.specs.Io.KnownBytes.{Appends};
-ghost use Rattle.line_protocol.specs.declared.written.WriterCalls.{WriterCalls};
+ghost use Rattle.line_text.specs.declared.written.WriterCalls.{WriterCalls};
 ghost use Rattle.journal_text.specs.JournalAnswers.{IsMigrated};
 ghost use Rattle.tenant_audit.specs.Reading.{NamesNewer};
 ghost use Rattle.journal_commands.specs.Auditing.{IsReadingFault};
@@ -11,7 +11,7 @@ ghost use Rattle.command_parts.specs.Streams.{BreaksOff};
 
 use crate::auditing::{cause_of_file, refuse_line};
 use command_parts::{Cause, End, ProgramFault, WholeFiles, say_bytes};
-use line_protocol::Output;
+use line_text::Output;
 use std::alloc::Global;
 use std::io::Write;
 use tenant_audit::{JournalFault, migrate_journal};

@@ -8,7 +8,7 @@ use Rattle.silo_model.specs.Whole.{Whole, shown_to, whole_step}
 use Rattle.silo_model.specs.Run.{done_by, whole_run}
 use Rattle.line_parser.specs.declared.line.Line.{Line}
 use Rattle.line_parser.specs.declared.line.Line.TheVariants as line
-use Rattle.line_protocol.specs.LineTexts.{said_lines, texts_of}
+use Rattle.line_text.specs.LineTexts.{said_lines, texts_of}
 use Rattle.answer_model.specs.Answering.{Luck, Stepper, Asked, all_have_memory, taken, is_asked, whole_stepper, machine_stepper, answering, answered, all_answered}
 use Rattle.answer_model.specs.Certain.{AllStored, AllWell}
 use Rattle.answer_model.specs.Idle.{AllIdle}

@@ -20,9 +20,9 @@ use Rattle.line_parser.specs.Meaning.{meaning_of}
 use Rattle.line_parser.specs.declared.line.Line.{Line}
 use Rattle.line_parser.specs.declared.line.Line.TheVariants as line
 use Rattle.line_parser.specs.declared.line.LineRefusal.TheVariants.{NotARequest}
-use Rattle.line_protocol.specs.LineTexts.{ended, texts_of, texts_to, said_lines}
-use Rattle.line_protocol.specs.Text.{refusal_line, not_now_line}
-use Rattle.line_protocol.proofs.Saids.{said_lines-more}
+use Rattle.line_text.specs.LineTexts.{ended, texts_of, texts_to, said_lines}
+use Rattle.line_text.specs.Text.{refusal_line, not_now_line}
+use Rattle.line_text.proofs.Saids.{said_lines-more}
 use Rattle.answer_model.specs.Answering.{Stepper, Asked, taken, is_asked, whole_stepper, answering, answered, all_answered}
 use Rattle.answer_model.specs.Idle.{AllIdle, TellsAsker}
 use Rattle.answer_model.proofs.Idle.{answered_at_once}

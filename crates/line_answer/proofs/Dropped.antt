@@ -15,7 +15,7 @@ use Rattle.silo_core.specs.History.{History, Failures, failed_since}
 use Rattle.silo_core.specs.Reopening.{Reopens, ReopensOrNot}
 use Rattle.line_parser.specs.declared.line.Line.{Line}
 use Rattle.line_parser.specs.declared.line.Line.TheVariants as line
-use Rattle.line_protocol.specs.LineTexts.{texts_of}
+use Rattle.line_text.specs.LineTexts.{texts_of}
 use Rattle.answer_model.specs.Answering.{Stepper, Asked, Luck, taken, is_asked, whole_stepper, answering, answered, all_answered}
 use Rattle.answer_model.proofs.Untold.{answered_told, answering_told, done_told, run_told}
 use Rattle.line_answer.specs.Dropped.{IsLeftOf, Leaves, MayDrop}

@@ -5,7 +5,7 @@ use Rattle.silo_event.specs.declared.reply.Party.TheVariants as party
 use Rattle.silo_event.specs.declared.reply.Reply.{Reply}
 use Rattle.silo_model.specs.Calls.{told}
 use Rattle.silo_model.specs.Whole.{Whole, whole_step}
-use Rattle.line_protocol.specs.LineTexts.{texts_of}
+use Rattle.line_text.specs.LineTexts.{texts_of}
 use Rattle.answer_model.specs.Answering.{Asked, first_luck, taken, whole_stepper, answered}
 use Rattle.answer_model.specs.Idle.{TellsAsker, TellsFirst}
 use Rattle.answer_model.proofs.Idle.{answered_at_once, asked_done}

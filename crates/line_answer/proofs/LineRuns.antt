@@ -7,17 +7,17 @@ use Rattle.silo_model.specs.Journal.{LeadsTo}
 use Rattle.silo_core.specs.History.{History}
 use Rattle.line_parser.specs.Meaning.{meaning_of}
 use Rattle.line_parser.specs.declared.line.Line.{Line}
-use Rattle.line_protocol.specs.Calls.{HasCause, HasNothingAhead}
-use Rattle.line_protocol.specs.Lines.{lines_of}
-use Rattle.line_protocol.specs.LineRuns.{WrittenInPart}
-use Rattle.line_protocol.specs.Reading.{Reading, IsFresh, left_of, LinesTaken, TakesLine, TakesPart, AreTakenButOne}
-use Rattle.line_protocol.specs.declared.written.WriterCalls.{WriterCalls}
-use Rattle.line_protocol.specs.declared.fault.LineFault.{LineFault}
-use Rattle.line_protocol.specs.declared.fault.LineFault.TheVariants as fault
-use Rattle.line_protocol.proofs.LinesOfBytes.{LinesTaken-trans, LinesTaken-kept}
-use Rattle.line_protocol.proofs.Run.{taken_here}
-use Rattle.line_protocol.proofs.ReadLines.{all_taken_here, lines_ahead}
-use Rattle.line_protocol.proofs.TakenLines.{Took, Took-kept, Took-more, TakesLine-lines, none_beyond, one_beyond}
+use Rattle.line_text.specs.Calls.{HasCause, HasNothingAhead}
+use Rattle.line_text.specs.Lines.{lines_of}
+use Rattle.line_text.specs.Writing.{WrittenInPart}
+use Rattle.line_text.specs.Reading.{Reading, IsFresh, left_of, LinesTaken, TakesLine, TakesPart, AreTakenButOne}
+use Rattle.line_text.specs.declared.written.WriterCalls.{WriterCalls}
+use Rattle.line_text.specs.declared.fault.LineFault.{LineFault}
+use Rattle.line_text.specs.declared.fault.LineFault.TheVariants as fault
+use Rattle.line_text.proofs.LinesOfBytes.{LinesTaken-trans, LinesTaken-kept}
+use Rattle.line_text.proofs.TakenLines.{taken_here}
+use Rattle.line_text.proofs.ReadLines.{all_taken_here, lines_ahead}
+use Rattle.line_text.proofs.TakenLines.{Took, Took-kept, Took-more, TakesLine-lines, none_beyond, one_beyond}
 use Rattle.answer_model.specs.Idle.{AllIdle}
 use Rattle.line_answer.specs.Dropped.{Leaves, MayDrop}
 use Rattle.line_answer.specs.Limits.{answered_limit}

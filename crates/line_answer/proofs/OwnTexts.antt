@@ -18,7 +18,7 @@ use Rattle.silo_core.proofs.Steps.{done_parts}
 use Rattle.finite_maps.proofs.Lists.{all_append}
 use Rattle.line_parser.specs.declared.line.Line.{Line}
 use Rattle.line_parser.specs.declared.line.Line.TheVariants as line
-use Rattle.line_protocol.specs.LineTexts.{line_concerns, texts_of, texts_to}
+use Rattle.line_text.specs.LineTexts.{line_concerns, texts_of, texts_to}
 use Rattle.answer_model.specs.Answering.{Asked, Luck, Stepper, all_answered, answered, answering, bringing, called_grain, deliveries_of, first_luck, is_asked, later_luck, machine_stepper, taken, taken_by, whole_stepper}
 use Rattle.answer_model.specs.Apart.{asked_by}
 use Rattle.answer_model.proofs.Apart.{asked_done, owner_failed, taken_call, tenants_apart}

@@ -15,7 +15,7 @@ use Rattle.silo_model.specs.Whole.{shown_to}
 use Rattle.silo_core.specs.History.{History}
 use Rattle.line_parser.specs.declared.line.Line.{Line}
 use Rattle.line_parser.specs.declared.line.Line.TheVariants as line
-use Rattle.line_protocol.specs.LineTexts.{said_lines, texts_of}
+use Rattle.line_text.specs.LineTexts.{said_lines, texts_of}
 use Rattle.answer_model.specs.Answering.{Luck, is_asked, machine_stepper, whole_stepper, all_answered}
 use Rattle.answer_model.specs.Apart.{asked_by}
 use Rattle.answer_model.specs.Certain.{AllWell}

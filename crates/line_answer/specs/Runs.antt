@@ -6,14 +6,14 @@ use Rattle.silo_model.specs.Whole.{shown_to}
 use Rattle.silo_core.specs.History.{History}
 use Rattle.line_parser.specs.Meaning.{meaning_of}
 use Rattle.line_parser.specs.declared.line.Line.{Line}
-use Rattle.line_protocol.specs.Limits.{calls_limit}
-use Rattle.line_protocol.specs.Lines.{lines_of}
-use Rattle.line_protocol.specs.LineTexts.{said_lines, texts_to}
-use Rattle.line_protocol.specs.LineRuns.{WrittenInPart}
-use Rattle.line_protocol.specs.Reading.{Reading, AreTaken, AreTakenButOne, left_of}
-use Rattle.line_protocol.specs.declared.written.WriterCalls.{WriterCalls}
-use Rattle.line_protocol.specs.declared.fault.LineFault.{LineFault}
-use Rattle.line_protocol.specs.declared.fault.LineFault.TheVariants as fault
+use Rattle.line_text.specs.Limits.{calls_limit}
+use Rattle.line_text.specs.Lines.{lines_of}
+use Rattle.line_text.specs.LineTexts.{said_lines, texts_to}
+use Rattle.line_text.specs.Writing.{WrittenInPart}
+use Rattle.line_text.specs.Reading.{Reading, AreTaken, AreTakenButOne, left_of}
+use Rattle.line_text.specs.declared.written.WriterCalls.{WriterCalls}
+use Rattle.line_text.specs.declared.fault.LineFault.{LineFault}
+use Rattle.line_text.specs.declared.fault.LineFault.TheVariants as fault
 use Rattle.answer_model.specs.Answering.{Luck, all_answered, all_have_memory, machine_stepper, whole_stepper}
 use Rattle.answer_model.specs.Apart.{asked_by}
 use Rattle.answer_model.specs.Idle.{AllIdle}

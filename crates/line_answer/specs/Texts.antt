@@ -4,8 +4,8 @@ use Rattle.silo_event.specs.declared.step.Step.{Step}
 use Rattle.line_parser.specs.declared.line.Line.{Line}
 use Rattle.line_parser.specs.declared.line.Line.TheVariants as line
 use Rattle.line_parser.specs.declared.line.LineRefusal.TheVariants.{NotARequest}
-use Rattle.line_protocol.specs.LineTexts.{ended, joined, line_concerns, texts_of}
-use Rattle.line_protocol.specs.Text.{refusal_line, not_now_line}
+use Rattle.line_text.specs.LineTexts.{ended, joined, line_concerns, texts_of}
+use Rattle.line_text.specs.Text.{refusal_line, not_now_line}
 use Rattle.answer_model.specs.Answering.{Luck, Stepper, Asked, taken, is_asked, answering, answered, all_answered}
 
 -- ---- what lines ask

@@ -14,6 +14,6 @@ mod runner;
 mod serving;
 
 pub use answering::AnsweringSilo;
-pub use line_protocol::{Input, LineFault, Output};
+pub use line_text::{Input, LineFault, Output};
 pub use lines::answer_line;
 pub use runner::{ANSWERED_LIMIT, answer_lines};

@@ -1,8 +1,8 @@
 //! What one line leaves in the silo, and its text.
 
 ghost use Rattle.std.specs.Prelude.{◌≡◌, ◌++◌, ◌≤◌, false, IfOk, OnOk, drop, length, string_bytes};
-ghost use Rattle.line_protocol.specs.LineTexts.{ended, texts_of};
-ghost use Rattle.line_protocol.specs.Text.{refusal_line};
+ghost use Rattle.line_text.specs.LineTexts.{ended, texts_of};
+ghost use Rattle.line_text.specs.Text.{refusal_line};
 ghost use Rattle.line_parser.specs.Meaning.{meaning_of};
 ghost use Rattle.line_parser.specs.declared.line.Line.TheVariants as line;
 ghost use Rattle.line_answer.specs.Runs.{AnswersLineBy};
@@ -13,7 +13,7 @@ use bumpalo::Bump;
 use grain_logic::GrainLogic;
 use grain_storage::GrainStorage;
 use line_parser::{Line, LineRefusal, LineScratch, read_line};
-use line_protocol::{push_not_now, push_refusal, push_replies};
+use line_text::{push_not_now, push_refusal, push_replies};
 use silo_event::{Reply, Step};
 use std::alloc::{AllocError, Global};
 

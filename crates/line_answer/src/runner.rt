@@ -3,7 +3,7 @@
 ghost use Rattle.std.specs.Prelude.{◌≡◌, ◌≢◌, ◌≤◌, false, true, List, ℕ, IfOk, IfErr, IfSome, OnOk};
 ghost use Rattle.std.specs.Io.KnownBytes.{Appends};
 ghost use Rattle.line_parser.specs.Meaning.{meaning_of};
-ghost use Rattle.line_protocol.specs.Reading.{left_of};
+ghost use Rattle.line_text.specs.Reading.{left_of};
 ghost use Rattle.line_answer.specs.Limits.{answered_limit};
 ghost use Rattle.line_answer.specs.Runs.{AnswersLine, AnswersOn, KeepsSetup, LineStopsBy, MayStop, StopsOn};
 
@@ -13,7 +13,7 @@ use bumpalo::Bump;
 use grain_logic::GrainLogic;
 use grain_storage::GrainStorage;
 use line_parser::LineScratch;
-use line_protocol::{Input, LineFault, Output};
+use line_text::{Input, LineFault, Output};
 use std::alloc::Global;
 use std::io::{Read, Write};
 

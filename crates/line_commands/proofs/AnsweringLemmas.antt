@@ -8,25 +8,25 @@ use Rattle.command_parts.specs.Files.{FileClaims, claims}
 use Rattle.silo_core.specs.History.{History}
 use Rattle.silo_core.specs.Reopening.{OpensEmpty}
 use Rattle.silo_core.proofs.Opened.{opens_empty}
-use Rattle.line_protocol.specs.Reading.{IsFresh, Reading, left_of}
+use Rattle.line_text.specs.Reading.{IsFresh, Reading, left_of}
 use Rattle.command_parts.specs.Kept.{IsKeepingCause, KeepsJournal, KeepsSecond, MayFailAgain, MayFailAt, WritesAtMost, empty_journal}
 use Rattle.command_parts.specs.Kept.{opened}
 use Rattle.std.specs.Io.KnownBytes.{Keeps}
-use Rattle.line_protocol.specs.declared.fault.LineFault.{LineFault}
+use Rattle.line_text.specs.declared.fault.LineFault.{LineFault}
 use Rattle.std.specs.Prelude.{IfSome, OnOk}
 use Rattle.silo_model.specs.Opening.{Setup, opening}
 use Rattle.tenant_gate.specs.Table.{Table}
-use Rattle.line_protocol.specs.declared.written.WriterCalls.{WriterCalls}
+use Rattle.line_text.specs.declared.written.WriterCalls.{WriterCalls}
 use Rattle.line_commands.specs.Answering.{AnsweringFailsBy, AnswersFirst, AnswersInput, AnswersLanes, AnswersToEnd, AnswersUpTo, EndsBy}
 use Rattle.line_commands.specs.Answering.{WritesJournalsAtMost}
 use Rattle.journal_text.specs.Text.{journal_text}
-use Rattle.line_protocol.proofs.LinesOfBytes.{left_of-fresh}
-use Rattle.line_protocol.specs.Lines.{lines_of}
+use Rattle.line_text.proofs.LinesOfBytes.{left_of-fresh}
+use Rattle.line_text.specs.Lines.{lines_of}
 use Rattle.command_parts.specs.Setups.{Start, setup_of}
 use Rattle.command_parts.specs.Status.{cause_of}
 use Rattle.grain_logic.specs.Logic.{Logic}
 use Rattle.line_parser.specs.Meaning.{meaning_of}
-use Rattle.line_protocol.specs.declared.fault.LineFault.TheVariants as line
+use Rattle.line_text.specs.declared.fault.LineFault.TheVariants as line
 use Rattle.line_answer.specs.Dropped.{Leaves}
 use Rattle.line_answer.specs.Runs.{AnswersAll, AnswersBefore, AnswersLine, AnswersLines, AnswersOn, KeepsSetup, LeavesBy, StopsBy, StopsOn, WritesOn}
 use Rattle.line_answer.proofs.Asked.{Hears, hears_more, hears_own}

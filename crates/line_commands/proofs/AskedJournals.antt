@@ -15,7 +15,7 @@ use Rattle.silo_model.proofs.Tests.{on_found, on_test}
 use Rattle.silo_event.specs.Owner.{owner_of}
 use Rattle.line_parser.specs.declared.line.Line.{Line}
 use Rattle.line_parser.specs.declared.line.Line.TheVariants as line
-use Rattle.line_protocol.specs.LineTexts.{said_lines}
+use Rattle.line_text.specs.LineTexts.{said_lines}
 use Rattle.answer_model.specs.Answering.{Asked, Closing, Luck, Stepper, answered, answering, bringing, called_grain, can, closing, deliveries, deliveries_of, delivering, ending, first_luck, is_accepted, is_asked, later_luck, out_of_memory, raising, run, serving, serving_if, storage_failed, taken, taken_by, turn_of, turn_of_first, turning, well, whole_stepper}
 use Rattle.line_answer.specs.Texts.{Heard, all_steps, asked_if, asks_by, asks_of}
 use Rattle.journal_text.specs.Rules.{AsksInRange}

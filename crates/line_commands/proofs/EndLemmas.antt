@@ -3,14 +3,14 @@ use Rattle.std.proofs.KnownBytes.{Appends-kept, Appends-nil}
 use Rattle.std.proofs.Common.{Err, IfErr, IfSome, List, None, Ok, Option, Result, Some, [], ap, append-nil, arith, refl, subst, sym, true}
 use Rattle.std.proofs.Common.{ℕ, ⊎_elim, ◌++◌, ◌∙◌, ◌∷◌, ◌≡◌}
 use Rattle.silo_core.specs.History.{History}
-use Rattle.line_protocol.specs.Reading.{AreTakenButOne, IsFresh, Reading, left_of}
+use Rattle.line_text.specs.Reading.{AreTakenButOne, IsFresh, Reading, left_of}
 use Rattle.std.specs.Io.KnownBytes.{Keeps}
 use Rattle.line_parser.specs.declared.line.Line.{Line}
-use Rattle.line_protocol.specs.declared.fault.LineFault.{LineFault}
+use Rattle.line_text.specs.declared.fault.LineFault.{LineFault}
 use Rattle.silo_model.specs.Opening.{opening}
-use Rattle.line_protocol.specs.declared.written.WriterCalls.{WriterCalls}
-use Rattle.line_protocol.proofs.LinesOfBytes.{left_of-fresh}
-use Rattle.line_protocol.specs.Lines.{lines_of}
+use Rattle.line_text.specs.declared.written.WriterCalls.{WriterCalls}
+use Rattle.line_text.proofs.LinesOfBytes.{left_of-fresh}
+use Rattle.line_text.specs.Lines.{lines_of}
 use Rattle.command_parts.specs.Setups.{Start}
 use Rattle.std.specs.Prelude.{OnErr}
 use Rattle.silo_event.specs.declared.step.Answer.{Answer}
@@ -18,11 +18,11 @@ use Rattle.silo_model.specs.Whole.{Whole, shown_to}
 use Rattle.silo_model.specs.Machine.{Machine}
 use Rattle.silo_model.proofs.Opening.{opening_shown}
 use Rattle.silo_core.specs.Runs.{failed_in}
-use Rattle.line_protocol.specs.LineTexts.{whole_stepper, machine_stepper, said_lines, steps_said, line_texts, lines_text, lines_to}
-use Rattle.line_protocol.specs.LineTexts.{texts_to}
+use Rattle.line_text.specs.LineTexts.{whole_stepper, machine_stepper, said_lines, steps_said, line_texts, lines_text, lines_to}
+use Rattle.line_text.specs.LineTexts.{texts_to}
 use Rattle.line_protocol.specs.LineRuns.{AnswersLines, AnswersNext, AnswersAll, StopsBefore, StopsAt, StopsAfter, StopsBy}
-use Rattle.line_protocol.specs.declared.fault.LineFault.TheVariants as line
-use Rattle.line_protocol.proofs.TakenLines.{Took-none, TakesPart-none, none_beyond}
+use Rattle.line_text.specs.declared.fault.LineFault.TheVariants as line
+use Rattle.line_text.proofs.TakenLines.{Took-none, TakesPart-none, none_beyond}
 use Rattle.line_protocol.proofs.Unfailed.{none_failed, none_failed_before, unmarked, own_unmarked}
 use Rattle.line_commands.specs.Steps.{AnswersSteps, IsTextOf, StopsBetween, StopsFrom, StopsInside, StopsSteps}
 

@@ -1,11 +1,11 @@
 -- What `silo answer` does with the lines of an input.
 use Rattle.std.specs.Prelude.{◌≡◌, ◌⊎◌, ◌++◌, ℕ, List, Option, None, Some, IfSome}
 use Rattle.silo_core.specs.History.{History}
-use Rattle.line_protocol.specs.Lines.{lines_of}
-use Rattle.line_protocol.specs.Reading.{Reading}
-use Rattle.line_protocol.specs.declared.written.WriterCalls.{WriterCalls}
-use Rattle.line_protocol.specs.declared.fault.LineFault.{LineFault}
-use Rattle.line_protocol.specs.declared.fault.LineFault.TheVariants as line
+use Rattle.line_text.specs.Lines.{lines_of}
+use Rattle.line_text.specs.Reading.{Reading}
+use Rattle.line_text.specs.declared.written.WriterCalls.{WriterCalls}
+use Rattle.line_text.specs.declared.fault.LineFault.{LineFault}
+use Rattle.line_text.specs.declared.fault.LineFault.TheVariants as line
 use Rattle.line_answer.specs.Runs.{AnswersAll, AnswersLines, StopsBy}
 use Rattle.journal_text.specs.Text.{journal_text}
 use Rattle.command_parts.specs.Files.{FileClaims}

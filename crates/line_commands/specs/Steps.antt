@@ -2,14 +2,15 @@
 use Rattle.std.specs.Prelude.{◌≡◌, ◌≤◌, ◌⊎◌, ◌++◌, ℕ, List, [], length, Option, Some, IfSome, true}
 use Rattle.std.specs.Io.KnownBytes.{Appends}
 use Rattle.silo_model.specs.Opening.{opening, start_of}
-use Rattle.line_protocol.specs.Limits.{calls_limit}
-use Rattle.line_protocol.specs.Lines.{lines_of}
-use Rattle.line_protocol.specs.LineTexts.{whole_stepper, machine_stepper, said_lines, line_texts, lines_text, lines_to, texts_to}
-use Rattle.line_protocol.specs.LineRuns.{IsFull, WrittenInPart}
-use Rattle.line_protocol.specs.Reading.{AreTaken, AreTakenButOne, Reading, left_of}
-use Rattle.line_protocol.specs.declared.written.WriterCalls.{WriterCalls}
-use Rattle.line_protocol.specs.declared.fault.LineFault.{LineFault}
-use Rattle.line_protocol.specs.declared.fault.LineFault.TheVariants as line
+use Rattle.line_text.specs.Limits.{calls_limit}
+use Rattle.line_text.specs.Lines.{lines_of}
+use Rattle.line_text.specs.LineTexts.{whole_stepper, machine_stepper, said_lines, line_texts, lines_text, lines_to, texts_to}
+use Rattle.line_protocol.specs.LineRuns.{IsFull}
+use Rattle.line_text.specs.Writing.{WrittenInPart}
+use Rattle.line_text.specs.Reading.{AreTaken, AreTakenButOne, Reading, left_of}
+use Rattle.line_text.specs.declared.written.WriterCalls.{WriterCalls}
+use Rattle.line_text.specs.declared.fault.LineFault.{LineFault}
+use Rattle.line_text.specs.declared.fault.LineFault.TheVariants as line
 use Rattle.command_parts.specs.Setups.{Start}
 
 -- The text is what a silo answers to the lines from its opening, and nothing else. For every tenant, the texts of the lines

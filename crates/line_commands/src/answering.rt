@@ -2,7 +2,7 @@
 
 ghost use Rattle.std.specs.Prelude.{◌≡◌, ◌≢◌, ◌⊎◌, false, true, ℕ, None, IfErr, IfSome, OnOk, option_map};
 ghost use Rattle.silo_core.specs.Reopening.{OpensEmpty};
-ghost use Rattle.line_protocol.specs.Reading.{IsFresh};
+ghost use Rattle.line_text.specs.Reading.{IsFresh};
 ghost use Rattle.line_answer.specs.Runs.{AnswersOn, KeepsSetup, StopsOn};
 ghost use Rattle.command_parts.specs.Setups.{starting, version_of};
 ghost use Rattle.command_parts.specs.Files.{claims};
@@ -13,7 +13,7 @@ use command_parts::{Cause, Start, WholeFiles, cause_of, keep_journal, new_silo};
 use grain_logic::GrainLogic;
 use grain_storage::MemoryStorage;
 use line_answer::{AnsweringSilo, answer_lines};
-use line_protocol::{Input, LineFault, Output};
+use line_text::{Input, LineFault, Output};
 use silo_core::Silo;
 use std::alloc::Global;
 use std::io::{Read, Write};

@@ -2,14 +2,15 @@
 
 ghost use Rattle.std.specs.Prelude.{◌≡◌, false, OnOk, IfOk, IfErr};
 ghost use Rattle.silo_model.specs.Opening.{opening};
-ghost use Rattle.line_protocol.specs.Reading.{IsFresh};
+ghost use Rattle.line_text.specs.Reading.{IsFresh};
 ghost use Rattle.command_parts.specs.Setups.{setup_of, starting, version_of};
 ghost use Rattle.line_commands.specs.Steps.{AnswersFrom, StopsFrom};
 
 use command_parts::Start;
 use grain_logic::GrainLogic;
 use grain_storage::MemoryStorage;
-use line_protocol::{Input, LineFault, Output, run_lines};
+use line_protocol::run_lines;
+use line_text::{Input, LineFault, Output};
 use silo_core::{Setup, Silo};
 use std::alloc::{AllocError, Global};
 use std::io::{Read, Write};

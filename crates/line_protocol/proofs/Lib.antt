@@ -1,13 +1,4 @@
-pub mod Plain
-pub mod Pushes
-pub mod Pieces
-pub mod LinesOfBytes
-pub mod TakenLines
-pub mod ReadLines
 pub mod StepTexts
-pub mod Saids
 pub mod OwnLines
 pub mod Unfailed
 pub mod Run
-pub mod ValueTexts
-pub mod Gathering

@@ -17,11 +17,11 @@ use Rattle.silo_model.proofs.Journals.{journal_sound, journals_grow, not_now}
 use Rattle.silo_model.proofs.Runs.{whole_after, machine_after, next_shown}
 use Rattle.silo_core.specs.History.{History}
 use Rattle.silo_core.proofs.Steps.{done_parts}
-use Rattle.line_protocol.specs.LineTexts.{whole_stepper, machine_stepper, texts_of, step_text, line_text, line_texts, said_lines, steps_said, as_taken, lines_to, texts_to}
+use Rattle.line_text.specs.LineTexts.{whole_stepper, machine_stepper, texts_of, step_text, line_text, line_texts, said_lines, steps_said, as_taken, lines_to, texts_to}
 use Rattle.line_protocol.specs.LineRuns.{AnswersSaid, AnswersLines}
 use Rattle.line_parser.specs.declared.line.Line.{Line}
 use Rattle.line_parser.specs.declared.line.Line.TheVariants as line
-use Rattle.line_protocol.proofs.Saids.{EachAnswered}
+use Rattle.line_text.proofs.Saids.{EachAnswered}
 
 -- ---- one step
 

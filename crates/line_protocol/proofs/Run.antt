@@ -1,5 +1,5 @@
 -- One line more of a run.
-use Rattle.std.proofs.Common.{◌≡◌, ◌≢◌, ℕ, ◌+◌, true, List, [], ◌∷◌, ◌++◌, length, Option, Some, None, IfSome, Result, Err, refl, sym, ap, ap₂, ◌∙◌, subst, inl, inr, arith, append_assoc, append-nil, length-append, ⊎_elim}
+use Rattle.std.proofs.Common.{◌≡◌, ◌≢◌, ℕ, ◌+◌, List, [], ◌∷◌, ◌++◌, length, Option, Some, None, IfSome, refl, sym, ap, ap₂, ◌∙◌, subst, inl, inr, arith, append_assoc, append-nil, length-append, ⊎_elim}
 use Rattle.std.specs.Io.KnownBytes.{Appends, Keeps, IsAtEnd}
 use Rattle.std.proofs.KnownBytes.{Appends-trans, Appends-kept, Appends-nil}
 use Rattle.silo_event.specs.declared.step.Answer.{Answer}
@@ -11,24 +11,24 @@ use Rattle.silo_model.specs.Run.{run_by, whole_run}
 use Rattle.silo_core.specs.History.{History}
 use Rattle.silo_core.specs.Runs.{Takes}
 use Rattle.silo_core.proofs.Runs.{taken_none, taken_one, taken_on}
-use Rattle.line_protocol.specs.Calls.{HasCause, HasNothingAhead, StopsReading}
-use Rattle.line_protocol.specs.Limits.{lines_limit}
-use Rattle.line_protocol.specs.Lines.{lines_of}
+use Rattle.line_text.specs.Calls.{HasCause, HasNothingAhead}
+use Rattle.line_text.specs.Limits.{lines_limit}
+use Rattle.line_text.specs.Lines.{lines_of}
 use Rattle.line_parser.specs.Meaning.{meaning_of}
-use Rattle.line_protocol.specs.LineTexts.{whole_stepper, said_lines, steps_said, as_taken, lines_text}
-use Rattle.line_protocol.specs.LineRuns.{AnswersLine, AnswersSaid, AnswersLines, AnswersNext, AnswersAll, StopsBefore, StopsAt, WrittenInPart, StopsAfter, StopsBy, MayTake, LineStopsBy}
-use Rattle.line_protocol.specs.Reading.{Reading, IsFresh, left_of, LinesTaken, TakesLine, TakesPart, AreTaken, AreTakenButOne}
-use Rattle.line_protocol.specs.declared.calls.ReaderCalls.{ReaderCalls}
-use Rattle.line_protocol.specs.declared.written.WriterCalls.{WriterCalls}
-use Rattle.line_protocol.specs.declared.fault.LineFault.{LineFault}
-use Rattle.line_protocol.specs.declared.fault.LineFault.TheVariants as fault
+use Rattle.line_text.specs.LineTexts.{whole_stepper, said_lines, steps_said, as_taken, lines_text}
+use Rattle.line_protocol.specs.LineRuns.{AnswersLine, AnswersSaid, AnswersLines, AnswersNext, AnswersAll, StopsBefore, StopsAt, StopsAfter, StopsBy, MayTake, LineStopsBy}
+use Rattle.line_text.specs.Writing.{WrittenInPart}
+use Rattle.line_text.specs.Reading.{Reading, IsFresh, left_of, LinesTaken, TakesLine, TakesPart, AreTakenButOne}
+use Rattle.line_text.specs.declared.written.WriterCalls.{WriterCalls}
+use Rattle.line_text.specs.declared.fault.LineFault.{LineFault}
+use Rattle.line_text.specs.declared.fault.LineFault.TheVariants as fault
 use Rattle.line_parser.specs.declared.line.Line.{Line}
 use Rattle.line_parser.specs.declared.line.Line.TheVariants as line
-use Rattle.line_protocol.proofs.Saids.{said_lines-more, steps_said-more, as_taken-append, steps_said-taken, lines_text-append}
+use Rattle.line_text.proofs.Saids.{said_lines-more, steps_said-more, as_taken-append, steps_said-taken, lines_text-append}
 use Rattle.line_protocol.proofs.OwnLines.{lines_own}
-use Rattle.line_protocol.proofs.LinesOfBytes.{LinesTaken-trans, LinesTaken-kept, left_of-fresh}
-use Rattle.line_protocol.proofs.ReadLines.{all_taken_here, lines_ahead}
-use Rattle.line_protocol.proofs.TakenLines.{Took, Took-kept, Took-more, TakesLine-lines, are_taken, none_beyond, one_beyond}
+use Rattle.line_text.proofs.LinesOfBytes.{LinesTaken-trans, LinesTaken-kept}
+use Rattle.line_text.proofs.ReadLines.{all_taken_here, lines_ahead}
+use Rattle.line_text.proofs.TakenLines.{Took, Took-kept, Took-more, TakesLine-lines, taken_here, none_beyond, one_beyond}
 
 -- ---- one line more
 
@@ -184,12 +184,6 @@ stops_at logic count input bytes old new before after p = record {
   written = p.written;
 }
 
--- what was taken, if nothing is read ahead
-pub taken_here : (input : List ℕ) (left : Option (List ℕ)) (done : List (List ℕ)) (reading : Reading) (rest : Option (List ℕ)) → IsFresh reading → Took (Some input) left done
-    → TakesPart left (left_of reading rest) → AreTaken input rest done
-taken_here input left done reading rest none took part =
-    subst (λ (o : Option (List ℕ)). AreTaken input o done) (left_of-fresh reading rest none) (are_taken input left _ done took part)
-
 -- for a reason beside it
 for_reason : (from : Option (List ℕ)) (P Q : List ℕ → Type 0) → ((input : List ℕ) → P input → Q input) → IfSome from P → IfSome from Q
 for_reason None P Q f h = tt
@@ -236,34 +230,6 @@ stops_reading logic fault.Memory reading rest writing count (Some input) (Some b
     (stops_at logic count input bytes old new before after p, none_beyond input (Some bytes) _ p.done p.took part)
 stops_reading logic fault.Write reading rest writing count (Some input) (Some bytes) old new before after cause none part p =
     (stops_flushing logic count (Some input) (Some bytes) old new before after p, cause)
-
--- what ends reading has its cause
-pub cause_of_reading : (e : LineFault) (calls : ReaderCalls) (writing : WriterCalls) → StopsReading e calls → HasCause e calls writing
-cause_of_reading fault.Read calls writing cause = cause
-cause_of_reading fault.TooMuch calls writing cause = cause
-cause_of_reading fault.Memory calls writing cause = tt
-cause_of_reading fault.Write calls writing cause = absurd cause
-
--- what failed to let out what was written has its cause
-pub cause_of_flushing : {T : Type 0} (e : LineFault) (calls : ReaderCalls) (writing : WriterCalls) → ◌≡◌ {A = Result T LineFault} (Err e) (Err fault.Write) → writing.failed ≡ true → HasCause e calls writing
-cause_of_flushing fault.Read calls writing is failed = absurd cc
-cause_of_flushing fault.TooMuch calls writing is failed = absurd cc
-cause_of_flushing fault.Memory calls writing is failed = tt
-cause_of_flushing fault.Write calls writing is failed = failed
-
--- after a failed read nothing is read ahead
-pub nothing_ahead : (e : LineFault) (reading : Reading) → IsFresh reading → HasNothingAhead e reading.ahead
-nothing_ahead fault.Read reading none = none
-nothing_ahead fault.TooMuch reading none = none
-nothing_ahead fault.Memory reading none = tt
-nothing_ahead fault.Write reading none = tt
-
--- nothing is asked of what is read ahead, where the writer failed
-pub ahead_at_flushing : {T : Type 0} (e : LineFault) (reading : Reading) → ◌≡◌ {A = Result T LineFault} (Err e) (Err fault.Write) → HasNothingAhead e reading.ahead
-ahead_at_flushing fault.Read reading is = absurd cc
-ahead_at_flushing fault.TooMuch reading is = absurd cc
-ahead_at_flushing fault.Memory reading is = tt
-ahead_at_flushing fault.Write reading is = tt
 
 -- there are more lines than an input may have
 pub stops_full : (logic : Logic) (reading : Reading) (rest : Option (List ℕ)) (writing : WriterCalls) (count : ℕ) (from : Option (List ℕ)) (old new : History) (before after : Option (List ℕ))

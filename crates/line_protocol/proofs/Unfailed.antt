@@ -9,10 +9,10 @@ use Rattle.silo_model.specs.Run.{concerns, answers_to}
 use Rattle.silo_core.specs.History.{History, Failures}
 use Rattle.silo_core.specs.Runs.{failed_in, Takes}
 use Rattle.silo_core.proofs.Runs.{failed_in-append}
-use Rattle.line_protocol.specs.LineTexts.{steps_said, as_taken, lines_to}
+use Rattle.line_text.specs.LineTexts.{steps_said, as_taken, lines_to}
 use Rattle.line_parser.specs.declared.line.Line.{Line}
 use Rattle.line_parser.specs.declared.line.Line.TheVariants as line
-use Rattle.line_protocol.proofs.Saids.{EachAnswered}
+use Rattle.line_text.proofs.Saids.{EachAnswered}
 
 -- ---- that none failed
 

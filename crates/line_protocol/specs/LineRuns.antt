@@ -9,17 +9,18 @@ use Rattle.silo_model.specs.Run.{answers_to}
 use Rattle.silo_model.specs.Parts.{AnsweredAlone}
 use Rattle.silo_core.specs.History.{History, Answered}
 use Rattle.silo_core.specs.Runs.{Takes}
-use Rattle.line_protocol.specs.Limits.{calls_limit, lines_limit}
-use Rattle.line_protocol.specs.Lines.{lines_of}
-use Rattle.line_protocol.specs.Reading.{Reading, AreTaken, AreTakenButOne, left_of}
-use Rattle.line_protocol.specs.Text.{refusal_line}
-use Rattle.line_protocol.specs.LineTexts.{whole_stepper, machine_stepper, said_lines, steps_said, as_taken}
-use Rattle.line_protocol.specs.LineTexts.{ended, line_text, line_texts, lines_text, lines_to, texts_to}
+use Rattle.line_text.specs.Limits.{calls_limit, lines_limit}
+use Rattle.line_text.specs.Lines.{lines_of}
+use Rattle.line_text.specs.Reading.{Reading, AreTaken, AreTakenButOne, left_of}
+use Rattle.line_text.specs.Text.{refusal_line}
+use Rattle.line_text.specs.Writing.{WrittenInPart}
+use Rattle.line_text.specs.LineTexts.{whole_stepper, machine_stepper, said_lines, steps_said, as_taken}
+use Rattle.line_text.specs.LineTexts.{ended, line_text, line_texts, lines_text, lines_to, texts_to}
 use Rattle.line_parser.specs.declared.line.Line.{Line}
 use Rattle.line_parser.specs.declared.line.Line.TheVariants as line
-use Rattle.line_protocol.specs.declared.written.WriterCalls.{WriterCalls}
-use Rattle.line_protocol.specs.declared.fault.LineFault.{LineFault}
-use Rattle.line_protocol.specs.declared.fault.LineFault.TheVariants as fault
+use Rattle.line_text.specs.declared.written.WriterCalls.{WriterCalls}
+use Rattle.line_text.specs.declared.fault.LineFault.{LineFault}
+use Rattle.line_text.specs.declared.fault.LineFault.TheVariants as fault
 
 -- ---- lines, and what is written for them
 
@@ -90,13 +91,6 @@ pub record StopsAt (logic : Logic) (lines : List (List ℕ)) (old new : History)
   pub answers : AnswersLines logic old done given mid text
   pub next : (new ≡ mid) ⊎ AnswersNext logic old done rest given new text
   pub written : Appends before after text
-
--- A part of the bytes was written: the first of them, and nothing else.
-pub record WrittenInPart (before after : Option (List ℕ)) (bytes : List ℕ) : Type 0 where
-  pub front : List ℕ
-  pub back : List ℕ
-  pub parts : bytes ≡ front ++ back
-  pub written : Appends before after front
 
 -- The silo took the lines before the failing one, and that one, if there is one. The text of the lines before was written
 -- whole, and a part of its own.

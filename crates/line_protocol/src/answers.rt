@@ -5,11 +5,11 @@ ghost use Rattle.line_parser.specs.Meaning.{meaning_of};
 ghost use Rattle.line_protocol.specs.LineRuns.{AnswersLine, MayTake};
 ghost use Rattle.line_parser.specs.declared.line.Line.TheVariants as line;
 
-use crate::replies::{push_not_now, push_refusal, push_replies};
 use bumpalo::Bump;
 use grain_logic::GrainLogic;
 use grain_storage::GrainStorage;
 use line_parser::{Line, LineScratch, read_line};
+use line_text::{push_not_now, push_refusal, push_replies};
 use silo_core::Silo;
 use silo_event::{Answer, Step, StepFault};
 use std::alloc::{AllocError, Global};

@@ -2,24 +2,20 @@
 
 ghost use Rattle.std.specs.Prelude.{◌≡◌, ◌≢◌, ◌≤◌, false, List, ℕ, IfOk, IfErr, IfSome, OnOk};
 ghost use Rattle.std.specs.Io.KnownBytes.{Appends};
-ghost use Rattle.line_protocol.specs.Limits.{lines_limit};
+ghost use Rattle.line_text.specs.Limits.{lines_limit};
 ghost use Rattle.line_parser.specs.Meaning.{meaning_of};
 ghost use Rattle.line_protocol.specs.LineRuns.{AnswersLine, LineStopsBy, AnswersAll, StopsBy};
-ghost use Rattle.line_protocol.specs.Reading.{left_of};
+ghost use Rattle.line_text.specs.Reading.{left_of};
 
 use crate::answers::answer_line;
-use crate::fault::LineFault;
-use crate::streams::{Input, Output};
 use bumpalo::Bump;
 use grain_logic::GrainLogic;
 use grain_storage::GrainStorage;
 use line_parser::LineScratch;
+use line_text::{Input, LINES_LIMIT, LineFault, Output};
 use silo_core::Silo;
 use std::alloc::Global;
 use std::io::{Read, Write};
-
-/// Lines that an input may have.
-pub const LINES_LIMIT: u64 = 1_000_000;
 
 /// Takes what a line says, and writes its text at once.
 fn write_answer<W: Write, S: GrainStorage, L: GrainLogic>(

@@ -3,10 +3,10 @@ use Rattle.std.proofs.Common.{◌≡◌, ℕ, List, [], ◌∷◌, ◌++◌, Opt
 use Rattle.std.specs.Io.KnownBytes.{Appends}
 use Rattle.std.proofs.KnownBytes.{Appends-trans, Appends-kept, Appends-nil}
 use Rattle.std.proofs.lemmas.List.{append-nil}
-use Rattle.line_protocol.specs.LineRuns.{WrittenInPart}
-use Rattle.line_protocol.specs.LineTexts.{joined}
-use Rattle.line_protocol.specs.declared.fault.LineFault.{LineFault}
-use Rattle.line_protocol.specs.declared.fault.LineFault.TheVariants as fault
+use Rattle.line_text.specs.Writing.{WrittenInPart}
+use Rattle.line_text.specs.LineTexts.{joined}
+use Rattle.line_text.specs.declared.fault.LineFault.{LineFault}
+use Rattle.line_text.specs.declared.fault.LineFault.TheVariants as fault
 use Rattle.line_service.specs.ServedText.{StopsWriting}
 use Rattle.line_service.specs.inside.Written.{LineStops}
 

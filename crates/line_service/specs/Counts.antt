@@ -6,7 +6,7 @@ use Rattle.silo_event.specs.Fault.{fault_code}
 use Rattle.silo_event.specs.declared.fault.Fault.{Fault}
 use Rattle.silo_event.specs.declared.reply.Reply.{Reply}
 use Rattle.line_parser.specs.declared.line.LineRefusal.{LineRefusal}
-use Rattle.line_protocol.specs.Text.{fault_of}
+use Rattle.line_text.specs.Text.{fault_of}
 
 -- the code of a reply: 0 if it is an answer
 abbrev pub code_of : Result Tree Fault → ℕ

@@ -8,11 +8,11 @@ use Rattle.silo_event.specs.declared.reply.Party.{Party}
 use Rattle.silo_event.specs.declared.reply.Party.TheVariants as party
 use Rattle.silo_event.specs.declared.reply.Reply.{Reply}
 use Rattle.line_parser.specs.declared.line.LineRefusal.{LineRefusal}
-use Rattle.line_protocol.specs.LineRuns.{WrittenInPart}
-use Rattle.line_protocol.specs.LineTexts.{ended, joined}
-use Rattle.line_protocol.specs.Text.{line_of, refusal_line}
-use Rattle.line_protocol.specs.declared.fault.LineFault.{LineFault}
-use Rattle.line_protocol.specs.declared.fault.LineFault.TheVariants as fault
+use Rattle.line_text.specs.Writing.{WrittenInPart}
+use Rattle.line_text.specs.LineTexts.{ended, joined}
+use Rattle.line_text.specs.Text.{line_of, refusal_line}
+use Rattle.line_text.specs.declared.fault.LineFault.{LineFault}
+use Rattle.line_text.specs.declared.fault.LineFault.TheVariants as fault
 
 -- ---- what grains are told
 

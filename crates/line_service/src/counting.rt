@@ -2,7 +2,7 @@
 
 ghost use Rattle.std.specs.Prelude.{◌≡◌, ◌≤◌, ◌++◌, ℕ, IfOk, OnOk, codes, decimal, length, string_bytes};
 ghost use Rattle.silo_event.specs.Fault.{fault_code};
-ghost use Rattle.line_protocol.specs.Text.{fault_of};
+ghost use Rattle.line_text.specs.Text.{fault_of};
 ghost use Rattle.line_service.specs.Counts.{all_codes, code_of, codes_of, count_line, count_of, counts_text, refusals_line, refusals_lines};
 
 use itoa::Buffer;

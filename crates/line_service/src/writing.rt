@@ -4,15 +4,15 @@ ghost use Rattle.std.specs.Prelude.{◌≡◌, ◌++◌, false, true, IfErr, OnO
 ghost use Rattle.std.specs.Io.KnownBytes.{Appends};
 ghost use Rattle.std.specs.BTreeMap.{values};
 ghost use Rattle.std.specs.FinMap as finite;
-ghost use Rattle.line_protocol.specs.LineTexts.{joined};
-ghost use Rattle.line_protocol.specs.declared.fault.LineFault.TheVariants as line;
+ghost use Rattle.line_text.specs.LineTexts.{joined};
+ghost use Rattle.line_text.specs.declared.fault.LineFault.TheVariants as line;
 ghost use Rattle.line_service.specs.ServedText.{StopsWriting, replies_by_grain, replies_lines, served_lines, served_text};
 ghost use Rattle.line_service.specs.inside.Told.{replies_at};
 ghost use Rattle.line_service.specs.inside.Written.{LineStops};
 
 use crate::told::{ToldByGrain, told_by_grain};
 use line_parser::LineRefusal;
-use line_protocol::{LineFault, Output, push_refusal, push_reply};
+use line_text::{LineFault, Output, push_refusal, push_reply};
 use silo_event::Reply;
 use std::alloc::{AllocError, Global};
 use std::io::Write;

@@ -8,12 +8,12 @@ use Rattle.silo_model.specs.Journal.{LeadsTo}
 use Rattle.silo_model.specs.Segments.{untold}
 use Rattle.silo_model.specs.Whole.{Whole}
 use Rattle.silo_core.specs.History.{History}
-use Rattle.line_protocol.specs.Limits.{kept_limit}
-use Rattle.line_protocol.specs.Reading as reading
-use Rattle.line_protocol.specs.Reading.{Reading, IsFresh, LinesTaken, TakesCut, TakesLine, TakesPart, AreTaken, left_of}
-use Rattle.line_protocol.proofs.LinesOfBytes.{LinesTaken-trans, LinesTaken-kept, LinesTaken-self}
-use Rattle.line_protocol.proofs.ReadLines.{said_cut}
-use Rattle.line_protocol.proofs.TakenLines.{Took, Took-kept, Took-more, Took-none, TakesLine-lines}
+use Rattle.line_text.specs.Limits.{kept_limit}
+use Rattle.line_text.specs.Reading as reading
+use Rattle.line_text.specs.Reading.{Reading, IsFresh, LinesTaken, TakesCut, TakesLine, TakesPart, AreTaken, left_of}
+use Rattle.line_text.proofs.LinesOfBytes.{LinesTaken-trans, LinesTaken-kept, LinesTaken-self}
+use Rattle.line_text.proofs.ReadLines.{said_cut}
+use Rattle.line_text.proofs.TakenLines.{Took, Took-kept, Took-more, Took-none, TakesLine-lines}
 use Rattle.answer_model.specs.Idle.{AllIdle}
 use Rattle.answer_model.specs.Answering.{all_answered, whole_stepper}
 use Rattle.line_answer.specs.Laws.{heard_well}

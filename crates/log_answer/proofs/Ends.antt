@@ -5,12 +5,12 @@ use Rattle.std.proofs.KnownBytes.{Keeps-refl}
 use Rattle.grain_logic.specs.Logic.{Logic}
 use Rattle.silo_model.specs.Whole.{Whole}
 use Rattle.silo_core.specs.History.{History}
-use Rattle.line_protocol.specs.Limits.{calls_limit}
-use Rattle.line_protocol.specs.Lines.{lines_of}
-use Rattle.line_protocol.specs.LineRuns.{WrittenInPart}
-use Rattle.line_protocol.specs.Reading.{Reading, IsFresh, TakesPart, AreTaken, left_of}
-use Rattle.line_protocol.proofs.ReadLines.{lines_ahead}
-use Rattle.line_protocol.proofs.Run.{taken_here}
+use Rattle.line_text.specs.Limits.{calls_limit}
+use Rattle.line_text.specs.Lines.{lines_of}
+use Rattle.line_text.specs.Writing.{WrittenInPart}
+use Rattle.line_text.specs.Reading.{Reading, IsFresh, TakesPart, AreTaken, left_of}
+use Rattle.line_text.proofs.ReadLines.{lines_ahead}
+use Rattle.line_text.proofs.TakenLines.{taken_here}
 use Rattle.line_answer.specs.Limits.{answered_limit}
 use Rattle.log_host.specs.Acts.{Act, Held, held_from}
 use Rattle.log_host.specs.Lasting.{IsAsked, LastsFrom}

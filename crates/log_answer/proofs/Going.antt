@@ -9,7 +9,7 @@ use Rattle.silo_model.specs.Opening.{Setup}
 use Rattle.silo_model.specs.Segments.{untold}
 use Rattle.silo_model.specs.Whole.{Whole}
 use Rattle.silo_core.specs.History.{History}
-use Rattle.line_protocol.specs.Reading.{Reading, TakesCut, left_of}
+use Rattle.line_text.specs.Reading.{Reading, TakesCut, left_of}
 use Rattle.line_answer.specs.Limits.{answered_limit}
 use Rattle.answer_model.specs.Idle.{AllIdle}
 use Rattle.log_host.specs.Acts.{Act, Held, held_from}

@@ -2,10 +2,10 @@
 use Rattle.std.proofs.Common.{◌≡◌, ◌∙◌, ℕ, Bool, true, Result, Ok, Err, List, [], ◌∷◌, Option, Some, append-nil, refl, ap, sym, subst, inl, inr}
 use Rattle.std.specs.Io.KnownBytes.{Appends, Keeps}
 use Rattle.std.proofs.KnownBytes.{Appends-nil}
-use Rattle.line_protocol.specs.Calls.{HasNothingAhead, StopsReading}
-use Rattle.line_protocol.specs.Reading.{Reading, TakesPart, left_of}
-use Rattle.line_protocol.specs.declared.fault.LineFault.{LineFault}
-use Rattle.line_protocol.specs.declared.fault.LineFault.TheVariants as line
+use Rattle.line_text.specs.Calls.{HasNothingAhead, StopsReading}
+use Rattle.line_text.specs.Reading.{Reading, TakesPart, left_of}
+use Rattle.line_text.specs.declared.fault.LineFault.{LineFault}
+use Rattle.line_text.specs.declared.fault.LineFault.TheVariants as line
 use Rattle.log_text.specs.Batches as text
 use Rattle.log_host.specs.Acts.{Act}
 use Rattle.log_host.specs.Lasting.{lines_in}

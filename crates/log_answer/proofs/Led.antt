@@ -5,8 +5,8 @@ use Rattle.silo_model.specs.Journal.{LeadsTo}
 use Rattle.silo_model.specs.Whole.{Whole, shown_to}
 use Rattle.silo_core.specs.History.{History}
 use Rattle.line_parser.specs.Meaning.{meaning_of}
-use Rattle.line_protocol.specs.LineTexts.{said_lines}
-use Rattle.line_protocol.proofs.ReadLines.{said_cut}
+use Rattle.line_text.specs.LineTexts.{said_lines}
+use Rattle.line_text.proofs.ReadLines.{said_cut}
 use Rattle.answer_model.specs.Answering.{all_answered, whole_stepper}
 use Rattle.answer_model.specs.Idle.{AllIdle}
 use Rattle.answer_model.proofs.Apart.{tenants_apart}

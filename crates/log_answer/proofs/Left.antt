@@ -8,10 +8,10 @@ use Rattle.silo_model.specs.Segments.{told_before, untold}
 use Rattle.silo_model.specs.Whole.{Whole, shown_to}
 use Rattle.silo_core.specs.History.{History}
 use Rattle.std.specs.Io.KnownBytes.{Appends, IsAtEnd}
-use Rattle.line_protocol.specs.Lines.{lines_of}
-use Rattle.line_protocol.specs.LineRuns.{WrittenInPart}
-use Rattle.line_protocol.specs.LineTexts.{joined}
-use Rattle.line_protocol.specs.Reading.{Reading}
+use Rattle.line_text.specs.Lines.{lines_of}
+use Rattle.line_text.specs.Writing.{WrittenInPart}
+use Rattle.line_text.specs.LineTexts.{joined}
+use Rattle.line_text.specs.Reading.{Reading}
 use Rattle.answer_model.specs.Answering.{Stepper, all_answered, whole_stepper}
 use Rattle.answer_model.proofs.Apart.{tenants_apart}
 use Rattle.answer_model.proofs.Reached.{IsReached, run_reached}

@@ -9,9 +9,9 @@ use Rattle.silo_model.specs.Segments.{untold}
 use Rattle.silo_model.specs.Whole.{Whole}
 use Rattle.silo_core.specs.History.{History}
 use Rattle.answer_model.specs.Idle.{AllIdle}
-use Rattle.line_protocol.specs.Lines.{lines_of, whole_lines}
-use Rattle.line_protocol.specs.LineRuns.{WrittenInPart}
-use Rattle.line_protocol.specs.Reading.{AreTaken, Reading}
+use Rattle.line_text.specs.Lines.{lines_of, whole_lines}
+use Rattle.line_text.specs.Writing.{WrittenInPart}
+use Rattle.line_text.specs.Reading.{AreTaken, Reading}
 use Rattle.line_answer.specs.Dropped.{MayDrop}
 use Rattle.line_answer.proofs.Dropped.{leaves_dropped, leaves_self}
 use Rattle.log_text.specs.Lines.{HasNoBreak}

@@ -2,9 +2,9 @@
 use Rattle.std.proofs.Common.{◌≡◌, ◌∙◌, ℕ, Bool, IfSome, List, [], ◌∷◌, ◌++◌, Option, None, Some, append_assoc, append-nil, ap, inl, inr, refl, sym, ⊎_elim}
 use Rattle.grain_logic.specs.Logic.{Logic}
 use Rattle.silo_core.specs.History.{History}
-use Rattle.line_protocol.specs.Lines.{lines_of, whole_lines}
-use Rattle.line_protocol.proofs.LinesOfBytes.{lines_of-break, whole_lines-break}
-use Rattle.line_protocol.proofs.TakenLines.{HaveNoBreaks, ended_lines}
+use Rattle.line_text.specs.Lines.{lines_of, whole_lines}
+use Rattle.line_text.proofs.LinesOfBytes.{lines_of-break, whole_lines-break}
+use Rattle.line_text.proofs.TakenLines.{HaveNoBreaks, ended_lines}
 use Rattle.log_answer.specs.Answers.{HasLeft, LeadsOn, led, told_for}
 use Rattle.log_answer.specs.Runs.{AnswersPart}
 use Rattle.log_answer.proofs.Done.{Done}

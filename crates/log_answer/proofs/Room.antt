@@ -3,9 +3,9 @@ use Rattle.std.proofs.Common.{◌≡◌, ◌≤◌, ◌<◌, ◌∙◌, ℕ, ◌
 use Rattle.std.specs.Prelude.{flat_map, map}
 use Rattle.std.proofs.lemmas.List.{length-take, map-append, take-append-le, take_at}
 use Rattle.std.proofs.lemmas.Grind.{flat_map-append}
-use Rattle.line_protocol.specs.Limits.{kept_limit}
-use Rattle.line_protocol.specs.Lines.{lines_of}
-use Rattle.line_protocol.specs.Reading.{LinesTaken}
+use Rattle.line_text.specs.Limits.{kept_limit}
+use Rattle.line_text.specs.Lines.{lines_of}
+use Rattle.line_text.specs.Reading.{LinesTaken}
 use Rattle.line_answer.specs.Limits.{answered_limit}
 use Rattle.log_text.specs.Lines.{ended}
 use Rattle.log_answer.specs.Answers.{kept_line, line_bytes}

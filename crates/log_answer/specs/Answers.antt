@@ -4,8 +4,8 @@ use Rattle.grain_logic.specs.Logic.{Logic}
 use Rattle.silo_model.specs.Opening.{Setup}
 use Rattle.silo_model.specs.Whole.{Whole, shown_to}
 use Rattle.silo_core.specs.History.{History}
-use Rattle.line_protocol.specs.Limits.{kept_limit}
-use Rattle.line_protocol.specs.LineTexts.{said_lines}
+use Rattle.line_text.specs.Limits.{kept_limit}
+use Rattle.line_text.specs.LineTexts.{said_lines}
 use Rattle.answer_model.specs.Answering.{all_answered, machine_stepper, whole_stepper}
 use Rattle.answer_model.specs.Apart.{asked_by}
 use Rattle.answer_model.specs.Idle.{AllIdle}

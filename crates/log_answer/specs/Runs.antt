@@ -5,10 +5,10 @@ use Rattle.grain_logic.specs.Logic.{Logic}
 use Rattle.silo_model.specs.Segments.{untold}
 use Rattle.silo_model.specs.Whole.{Whole}
 use Rattle.silo_core.specs.History.{History}
-use Rattle.line_protocol.specs.Limits.{calls_limit}
-use Rattle.line_protocol.specs.Lines.{lines_of, whole_lines}
-use Rattle.line_protocol.specs.LineRuns.{WrittenInPart}
-use Rattle.line_protocol.specs.Reading.{AreTaken, Reading}
+use Rattle.line_text.specs.Limits.{calls_limit}
+use Rattle.line_text.specs.Lines.{lines_of, whole_lines}
+use Rattle.line_text.specs.Writing.{WrittenInPart}
+use Rattle.line_text.specs.Reading.{AreTaken, Reading}
 use Rattle.line_answer.specs.Limits.{answered_limit}
 use Rattle.log_text.specs.Lines.{HasNoBreak}
 use Rattle.log_host.specs.Acts.{Act, Always, Held, held_from}

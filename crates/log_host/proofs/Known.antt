@@ -4,7 +4,7 @@ use Rattle.std.specs.Prelude.{take, drop}
 use Rattle.std.specs.Io.KnownBytes.{Appends, Keeps}
 use Rattle.std.proofs.KnownBytes.{Appends-kept, Appends-nil}
 use Rattle.std.proofs.lemmas.List.{take-append-drop}
-use Rattle.line_protocol.specs.LineRuns.{WrittenInPart}
+use Rattle.line_text.specs.Writing.{WrittenInPart}
 use Rattle.log_text.specs.Lines.{IsPrefixOf, ended}
 use Rattle.log_text.specs.Sums.{own_sums, spelled}
 use Rattle.log_text.specs.Batches.{mark_behind}

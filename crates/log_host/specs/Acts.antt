@@ -2,7 +2,7 @@
 use Rattle.std.specs.Prelude.{◌≡◌, ◌⊎◌, ℕ, List, [], ◌∷◌, ◌++◌, take, Option, Some, None}
 use Rattle.std.specs.Io.KnownBytes.{Keeps}
 use Rattle.log_text.specs.Lines.{IsPrefixOf}
-use Rattle.line_protocol.specs.LineRuns.{WrittenInPart}
+use Rattle.line_text.specs.Writing.{WrittenInPart}
 
 -- Bytes were written at the log's end; all of the log was brought to the disk; bytes were told to whoever asked. If the call that tells
 -- fails, a part of them was.

@@ -2,7 +2,7 @@
 
 ghost use Rattle.std.specs.Prelude.{◌≡◌, List, [], ◌∷◌, ◌++◌, Some, false, true, IfOk, OnErr, OnOk};
 ghost use Rattle.std.specs.Io.KnownBytes.{Appends};
-ghost use Rattle.line_protocol.specs.LineRuns.{WrittenInPart};
+ghost use Rattle.line_text.specs.Writing.{WrittenInPart};
 ghost use Rattle.log_text.specs.Lines.{ended};
 ghost use Rattle.log_text.specs.Batches.{mark_behind, sum_behind};
 ghost use Rattle.log_text.specs.Sums.{after, own_sums, spelled};
@@ -11,7 +11,7 @@ ghost use Rattle.log_host.specs.Lasting.{IsAsked, LastsFrom, Log, SettlesFrom};
 
 use crate::host::{HostFault, LogHost};
 use crate::place::LogPlace;
-use line_protocol::Output;
+use line_text::Output;
 use log_text::{push_mark, sum_after};
 use std::io::Write;
 

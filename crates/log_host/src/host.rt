@@ -5,7 +5,7 @@ ghost use Rattle.std.specs.Io.KnownBytes.{Appends};
 ghost use Rattle.log_host.specs.Acts.{Act, Adds, AddsPart, TellsPart, synced, told, wrote};
 ghost use Rattle.log_host.specs.Files.{Begins, Cuts, Finds, MayBegin, MayCut, MaySwitch, Past, Switches};
 
-use line_protocol::Output;
+use line_text::Output;
 use std::alloc::Global;
 use std::io::Write;
 

@@ -2,12 +2,12 @@
 
 ghost use Rattle.std.specs.Prelude.{◌≡◌, ◌⊎◌, true, false, [], ◌∷◌, ◌++◌, None, Some, IfErr, IfOk, OnErr, OnOk, map, option_map};
 ghost use Rattle.std.specs.Io.KnownBytes.{Appends};
-ghost use Rattle.line_protocol.specs.LineRuns.{WrittenInPart};
+ghost use Rattle.line_text.specs.Writing.{WrittenInPart};
 ghost use Rattle.log_host.specs.Acts.{Adds, AddsPart, TellsPart, synced, told, wrote};
 ghost use Rattle.log_host.specs.Memory.{acts_of, burns, bytes_in, later, replaced_of};
 
 use crate::host::{HostFault, LogFiles, LogHost, OpenFault};
-use line_protocol::{LineFault, Output};
+use line_text::{LineFault, Output};
 use std::alloc::Global;
 use std::io::Write;
 use std::mem;

@@ -7,7 +7,7 @@ use Rattle.std.specs.Prelude.{String, string_bytes}
 use Rattle.std.specs.declared.alloc.Global.{Global}
 use Rattle.std.proofs.lemmas.Result.{IfErr-weaker}
 use Rattle.std.proofs.KnownBytes.{Keeps-refl}
-use Rattle.line_protocol.specs.declared.written.WriterCalls.{WriterCalls}
+use Rattle.line_text.specs.declared.written.WriterCalls.{WriterCalls}
 use Rattle.rows_command.specs.Rows.{IsNoPoint, IsRowsFault, Lists, MayList, PrintsRows}
 use Rattle.rows_command.specs.inside.Reading.{IsReadingFault, IsRefusal, file_cause}
 use Rattle.command_parts.specs.Streams.{BreaksOff}

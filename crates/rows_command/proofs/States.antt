@@ -18,7 +18,7 @@ use Rattle.request_codec.specs.Json.{json_of, items_of, json_members_of}
 use Rattle.request_codec.specs.Tree as tree
 use Rattle.request_codec.specs.Tree.{Tree, null, truth, integer, text, list, map, Members, no_members, member, Fields, no_fields, field}
 use Rattle.request_codec.proofs.Digits.{digit_there}
-use Rattle.line_protocol.specs.Text.{text_of, more_members, more_fields}
+use Rattle.line_text.specs.Text.{text_of, more_members, more_fields}
 use Rattle.rows_command.specs.Listing.{state_text}
 
 -- ---- no number in it is a float

@@ -1,7 +1,7 @@
 -- What `silo rows` reads, and what it says of it.
 use Rattle.std.specs.Prelude.{◌≡◌, ◌≤◌, ◌++◌, ◌∷◌, ℕ, List, [], Option, codes, string_bytes}
 use Rattle.std.specs.Io.KnownBytes.{Appends, Keeps}
-use Rattle.line_protocol.specs.declared.written.WriterCalls.{WriterCalls}
+use Rattle.line_text.specs.declared.written.WriterCalls.{WriterCalls}
 use Rattle.grain_kinds.specs.Versions.{newest}
 use Rattle.journal_text.specs.JournalAnswers.{IsJournalText}
 use Rattle.journal_text.specs.Text.{History}

@@ -2,7 +2,7 @@
 
 ghost use Rattle.std.specs.Prelude.{◌≡◌, false, ℕ, List, Option, IfErr, IfOk, OnOk, option_map, string_bytes};
 ghost use Rattle.std.specs.Io.KnownBytes.{Appends};
-ghost use Rattle.line_protocol.specs.declared.written.WriterCalls.{WriterCalls};
+ghost use Rattle.line_text.specs.declared.written.WriterCalls.{WriterCalls};
 ghost use Rattle.rows_command.specs.Rows.{IsRowsFault, Lists, MayList, PrintsRows, checkpoint_path};
 ghost use Rattle.rows_command.specs.inside.Reading.{IsReadingFault, IsRefusal, file_cause};
 ghost use Rattle.command_parts.specs.Streams.{BreaksOff};
@@ -10,7 +10,7 @@ ghost use Rattle.command_parts.specs.Streams.{BreaksOff};
 use crate::reading::listing_of;
 use checkpoint_text::CheckpointFault;
 use command_parts::{Cause, End, FileFault, ProgramFault, WholeFiles, say};
-use line_protocol::Output;
+use line_text::Output;
 use std::alloc::{AllocError, Global};
 use std::io::Write;
 

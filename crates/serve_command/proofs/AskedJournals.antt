@@ -12,8 +12,8 @@ use Rattle.silo_model.proofs.Tests.{on_found, on_test}
 use Rattle.lane_model.specs.Lanes.{Lane, LaneStands, done_steps_by, done_steps_of, given_by, has_giver, is_given_by, lane_of, same_lane, without_ticks_below}
 use Rattle.line_parser.specs.declared.line.Line.{Line}
 use Rattle.line_parser.specs.declared.line.Line.TheVariants as line
-use Rattle.line_protocol.specs.Lines.{lines_of}
-use Rattle.line_protocol.specs.LineTexts.{said_lines}
+use Rattle.line_text.specs.Lines.{lines_of}
+use Rattle.line_text.specs.LineTexts.{said_lines}
 use Rattle.line_service.specs.Asked.{giver_of, givers_of, lane_from, lanes_of, step_if, step_in, steps_of}
 use Rattle.journal_text.specs.Rules.{AsksInRange}
 use Rattle.command_parts.proofs.AskedNumbers.{SaysInRange, meaning_in_range}

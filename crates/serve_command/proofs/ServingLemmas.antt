@@ -8,18 +8,18 @@ use Rattle.command_parts.specs.Kept.{IsKeepingCause, KeepsSecond, MayFailAgain, 
 use Rattle.command_parts.specs.Kept.{empty_journal}
 use Rattle.std.proofs.KnownBytes.{Keeps-refl}
 use Rattle.line_parser.specs.declared.line.Line.{Line}
-use Rattle.line_protocol.specs.declared.fault.LineFault.{LineFault}
+use Rattle.line_text.specs.declared.fault.LineFault.{LineFault}
 use Rattle.serve_command.specs.Serving.{LeavesOutcome, Outcome, ServingFailsBy, WritesJournalAtMost, outcome_lines, service_cause}
 use Rattle.silo_model.specs.Opening.{Setup}
-use Rattle.line_protocol.specs.declared.written.WriterCalls.{WriterCalls}
+use Rattle.line_text.specs.declared.written.WriterCalls.{WriterCalls}
 use Rattle.line_service.specs.Counts.{codes_of, counts_text}
 use Rattle.line_service.specs.Reasons.{reasons_behind}
 use Rattle.grain_logic.specs.Logic.{Logic}
 use Rattle.command_parts.specs.Setups.{Start}
 use Rattle.std.specs.Prelude.{IfSome}
 use Rattle.std.proofs.lemmas.Option.{IfSome_then}
-use Rattle.line_protocol.specs.declared.fault.LineFault.TheVariants as line
-use Rattle.line_protocol.specs.declared.calls.ReaderCalls.{ReaderCalls}
+use Rattle.line_text.specs.declared.fault.LineFault.TheVariants as line
+use Rattle.line_text.specs.declared.calls.ReaderCalls.{ReaderCalls}
 use Rattle.line_service.specs.ServedText.{StopsWriting}
 use Rattle.serve_command.specs.declared.fault.ServiceFault.{ServiceFault}
 use Rattle.serve_command.specs.declared.fault.ServiceFault.TheVariants as service
@@ -29,7 +29,7 @@ use Rattle.serve_command.specs.Telling.{IsTold, asks_to_tell, telling_text}
 use Rattle.command_parts.specs.Status.{cause_of}
 use Rattle.silo_event.specs.declared.reply.Reply.{Reply}
 use Rattle.line_parser.specs.declared.line.LineRefusal.{LineRefusal}
-use Rattle.line_protocol.specs.Gathered.{ReadsAll, StopsGathering}
+use Rattle.line_text.specs.Gathered.{ReadsAll, StopsGathering}
 use Rattle.line_service.specs.Asked.{lanes_of, refusals_of}
 use Rattle.serve_command.specs.Lanes.{IsServed, LeavesServed, StopsServing, serving_fault}
 use Rattle.worker_host.specs.declared.report.ServeFault.{ServeFault}

@@ -1,6 +1,6 @@
 -- Why an input isn't served.
 use Rattle.std.proofs.Common.{◌≡◌, ℕ, List, Option, sym, subst}
-use Rattle.line_protocol.specs.declared.calls.ReaderCalls.{ReaderCalls}
+use Rattle.line_text.specs.declared.calls.ReaderCalls.{ReaderCalls}
 use Rattle.serve_command.specs.Lanes.{StopsServing, serving_fault}
 use Rattle.serve_command.specs.declared.fault.ServiceFault.{ServiceFault}
 use Rattle.worker_host.specs.declared.report.ServeFault.{ServeFault}

@@ -10,9 +10,9 @@ use Rattle.lane_model.specs.Serving.{AreServed}
 use Rattle.silo_core.specs.History.{History}
 use Rattle.line_parser.specs.declared.line.Line.{Line}
 use Rattle.line_parser.specs.declared.line.LineRefusal.{LineRefusal}
-use Rattle.line_protocol.specs.Gathered.{ReadsAll, StopsGathering}
-use Rattle.line_protocol.specs.declared.calls.ReaderCalls.{ReaderCalls}
-use Rattle.line_protocol.specs.declared.fault.LineFault.TheVariants as line
+use Rattle.line_text.specs.Gathered.{ReadsAll, StopsGathering}
+use Rattle.line_text.specs.declared.calls.ReaderCalls.{ReaderCalls}
+use Rattle.line_text.specs.declared.fault.LineFault.TheVariants as line
 use Rattle.line_service.specs.Asked.{lanes_of, refusals_of}
 use Rattle.worker_host.specs.SetupCopy.{AreAnswered}
 use Rattle.worker_host.specs.declared.report.ServeFault.{ServeFault}

@@ -4,10 +4,10 @@ use Rattle.std.specs.Io.KnownBytes.{Appends, Keeps}
 use Rattle.silo_event.specs.declared.reply.Reply.{Reply}
 use Rattle.silo_core.specs.History.{History}
 use Rattle.line_parser.specs.declared.line.LineRefusal.{LineRefusal}
-use Rattle.line_protocol.specs.Limits.{calls_limit}
-use Rattle.line_protocol.specs.Gathered.{HasTooMany}
-use Rattle.line_protocol.specs.declared.calls.ReaderCalls.{ReaderCalls}
-use Rattle.line_protocol.specs.declared.written.WriterCalls.{WriterCalls}
+use Rattle.line_text.specs.Limits.{calls_limit}
+use Rattle.line_text.specs.Gathered.{HasTooMany}
+use Rattle.line_text.specs.declared.calls.ReaderCalls.{ReaderCalls}
+use Rattle.line_text.specs.declared.written.WriterCalls.{WriterCalls}
 use Rattle.journal_text.specs.Text.{journal_text}
 use Rattle.serve_command.specs.Lanes.{IsServed}
 use Rattle.line_service.specs.ServedText.{WrittenInLines, served_lines, served_text}

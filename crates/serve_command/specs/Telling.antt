@@ -2,7 +2,7 @@
 use Rattle.std.specs.Prelude.{◌≡◌, ◌++◌, ◌||◌, ℕ, Bool, List, [], Option, IfSome, if◌then◌else◌, length, map as map_list}
 use Rattle.line_parser.specs.declared.line.Line.{Line}
 use Rattle.line_parser.specs.Meaning.{meaning_of}
-use Rattle.line_protocol.specs.Lines.{lines_of}
+use Rattle.line_text.specs.Lines.{lines_of}
 use Rattle.line_service.specs.Asked.{refusals_of}
 use Rattle.silo_core.specs.History.{History}
 use Rattle.silo_words.specs.declared.task.Telling.{Telling}

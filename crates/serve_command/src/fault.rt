@@ -2,7 +2,7 @@
 
 ghost use Rattle.std.specs.Prelude.{◌≡◌};
 
-use line_protocol::LineFault;
+use line_text::LineFault;
 use thiserror::Error;
 
 /// Why an input wasn't served.

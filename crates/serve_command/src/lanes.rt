@@ -3,7 +3,7 @@
 ghost use Rattle.std.specs.Prelude.{◌≡◌, ◌≤◌, IfOk, IfErr, IfSome, map as map_list};
 ghost use Rattle.lane_model.specs.Lanes.{AreDistinct};
 ghost use Rattle.silo_core.specs.Reopening.{OpensEmpty};
-ghost use Rattle.line_protocol.specs.Reading.{left_of};
+ghost use Rattle.line_text.specs.Reading.{left_of};
 ghost use Rattle.worker_host.specs.declared.report.ServeFault.{ServeFault as ServeFaultValue};
 ghost use Rattle.line_service.specs.Asked.{lanes_of, refusals_of};
 ghost use Rattle.command_parts.specs.Setups.{setup_of};
@@ -15,8 +15,8 @@ use command_parts::Start;
 use grain_logic::GrainLogic;
 use grain_storage::MemoryStorage;
 use line_parser::{Line, LineRefusal};
-use line_protocol::{Input, LineFault, read_all};
 use line_service::asked_by;
+use line_text::{Input, LineFault, read_all};
 use silo_core::Setup;
 use std::alloc::Global;
 use std::io::Read;

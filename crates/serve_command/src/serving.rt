@@ -2,7 +2,7 @@
 
 ghost use Rattle.std.specs.Prelude.{◌≡◌, ◌≤◌, false, [], IfOk, IfErr, IfSome, OnOk, map as map_list, option_map, string_bytes};
 ghost use Rattle.silo_core.specs.Reopening.{OpensEmpty};
-ghost use Rattle.line_protocol.specs.Reading.{IsFresh};
+ghost use Rattle.line_text.specs.Reading.{IsFresh};
 ghost use Rattle.serve_command.specs.Lanes.{IsServed, StopsServing};
 ghost use Rattle.command_parts.specs.Setups.{setup_of, starting, version_of};
 ghost use Rattle.silo_words.specs.Words.{nothing_told};
@@ -16,7 +16,7 @@ use crate::telling::{reasons_text, with_counts};
 use crate::writing::write_served;
 use command_parts::{Cause, Start, WholeFiles, cause_of, keep_first, keep_journal};
 use grain_logic::GrainLogic;
-use line_protocol::{Input, LineFault, Output, read_all};
+use line_text::{Input, LineFault, Output, read_all};
 use silo_words::Telling;
 use std::io::{Read, Write};
 use std::mem;

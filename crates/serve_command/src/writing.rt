@@ -2,13 +2,13 @@
 
 ghost use Rattle.std.specs.Prelude.{◌≡◌, false, true, IfErr, OnOk, map as map_list};
 ghost use Rattle.std.specs.Io.KnownBytes.{Appends};
-ghost use Rattle.line_protocol.specs.declared.fault.LineFault.TheVariants as line;
+ghost use Rattle.line_text.specs.declared.fault.LineFault.TheVariants as line;
 ghost use Rattle.line_service.specs.ServedText.{StopsWriting, served_lines, served_text};
 
 use crate::lanes::ServedInput;
 use grain_logic::GrainLogic;
-use line_protocol::{LineFault, Output};
 use line_service::write_outcome;
+use line_text::{LineFault, Output};
 use std::alloc::Global;
 use std::io::Write;
 

@@ -12,9 +12,9 @@ use Rattle.data_command.specs.declared.fault.DataFault.TheVariants as data_fault
 use Rattle.command_parts.specs.Files.{FileClaims}
 use Rattle.std.proofs.Common.{List, Option, inl, inr, ℕ, ⊎_elim, ◌≡◌, ◌≢◌, ◌⊎◌}
 use Rattle.command_parts.specs.declared.failure.ProgramFault.{ProgramFault}
-use Rattle.line_protocol.specs.Reading.{Reading}
+use Rattle.line_text.specs.Reading.{Reading}
 use Rattle.clap.specs.Words.{Text}
-use Rattle.line_protocol.specs.declared.written.WriterCalls.{WriterCalls}
+use Rattle.line_text.specs.declared.written.WriterCalls.{WriterCalls}
 use Rattle.std.specs.Prelude.{string_bytes}
 use Rattle.command_parts.specs.Streams.{IsUnbegun, Tells, TellsEnd}
 use Rattle.command_parts.specs.Status.{end_status, failure_text, status_of, told_text}

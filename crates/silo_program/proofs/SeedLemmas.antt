@@ -6,9 +6,9 @@ use Rattle.silo_program.specs.Ends.{AskForWork, IsFaultOf, IsFolderFault}
 use Rattle.data_command.specs.Data.{LogClaims}
 use Rattle.silo_words.specs.Words.{AskFor, AskForData}
 use Rattle.std.proofs.KnownBytes.{Keeps-refl}
-use Rattle.line_protocol.specs.Reading.{Reading}
+use Rattle.line_text.specs.Reading.{Reading}
 use Rattle.clap.specs.Words.{Text}
-use Rattle.line_protocol.specs.declared.written.WriterCalls.{WriterCalls}
+use Rattle.line_text.specs.declared.written.WriterCalls.{WriterCalls}
 use Rattle.silo_words.specs.declared.task.Task.{Task}
 use Rattle.silo_words.specs.declared.task.Task.TheVariants as task
 use Rattle.command_parts.specs.declared.failure.Cause.TheVariants as cause

@@ -20,10 +20,10 @@ use Rattle.std.specs.Io.KnownBytes.{Keeps}
 use Rattle.std.proofs.KnownBytes.{Keeps-refl}
 use Rattle.serve_command.specs.Serving.{ServesLanes, WritesJournalAtMost}
 use Rattle.command_parts.specs.declared.failure.ProgramFault.{ProgramFault}
-use Rattle.line_protocol.specs.Reading.{Reading}
+use Rattle.line_text.specs.Reading.{Reading}
 use Rattle.tenant_gate.specs.Table.{Table}
 use Rattle.clap.specs.Words.{Text}
-use Rattle.line_protocol.specs.declared.written.WriterCalls.{WriterCalls}
+use Rattle.line_text.specs.declared.written.WriterCalls.{WriterCalls}
 use Rattle.line_commands.specs.Answering.{WritesJournalsAtMost}
 use Rattle.silo_program.specs.Program.{program_start}
 use Rattle.silo_words.specs.Ages.{IsWhyNoAges, NamesAges}

@@ -4,9 +4,9 @@ use Rattle.std.specs.Io.KnownBytes.{Appends, Keeps}
 use Rattle.clap.specs.Words.{Text}
 use Rattle.tenant_gate.specs.Table.{Table}
 use Rattle.idle_collector.specs.Ages.{Ages}
-use Rattle.line_protocol.specs.Reading.{Reading}
-use Rattle.line_protocol.specs.declared.written.WriterCalls.{WriterCalls}
-use Rattle.line_protocol.specs.declared.fault.LineFault.{LineFault}
+use Rattle.line_text.specs.Reading.{Reading}
+use Rattle.line_text.specs.declared.written.WriterCalls.{WriterCalls}
+use Rattle.line_text.specs.declared.fault.LineFault.{LineFault}
 use Rattle.silo_program.specs.Program.{program_start}
 use Rattle.silo_words.specs.Words.{AreRefused, AskForAnswering, AskForAudit, AskForData, AskForHelp, AskForMigration, AskForNothing}
 use Rattle.silo_words.specs.Words.{AskForRows, AskForServing, AskForSteps, AskForVersion, EndsWithExample, nothing_told}

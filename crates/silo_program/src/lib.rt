@@ -17,5 +17,5 @@ pub use command_parts::{
     Cause, DataFiles, End, FileFault, HostFiles, MemoryFile, ProgramFault, WholeFiles,
     refuse_words, tell,
 };
-pub use line_protocol::{Input, Output};
+pub use line_text::{Input, Output};
 pub use program::{answer, run_program};

@@ -3,7 +3,7 @@
 ghost use Rattle.std.specs.Prelude.{◌≡◌, ◌≢◌, ◌≤◌, ◌⊎◌, false, List, ℕ, Option, IfOk, IfErr, OnOk, map, option_map};
 ghost use Rattle.std.specs.Io.KnownBytes.{Appends, Keeps};
 ghost use Rattle.clap.specs.Words.{Text};
-ghost use Rattle.line_protocol.specs.Reading.{IsFresh, Reading};
+ghost use Rattle.line_text.specs.Reading.{IsFresh, Reading};
 ghost use Rattle.silo_words.specs.Ages.{NamesAges};
 ghost use Rattle.silo_words.specs.Tenants.{NameTenants};
 ghost use Rattle.silo_words.specs.Words.{AskForAnswering, AskForData, AskForServing, AskForSteps, IsWhy, texts_of};
@@ -27,7 +27,7 @@ use data_command::{DataOpening, answer_data, explain_data};
 use grain_id::HashSeed;
 use journal_commands::{audit_file, migrate_file};
 use line_commands::{answer_input, answer_steps};
-use line_protocol::{Input, Output};
+use line_text::{Input, Output};
 use rows_command::print_rows;
 use serve_command::{asks_to_tell, serve_lines};
 use silo_words::{

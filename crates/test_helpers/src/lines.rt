@@ -2,7 +2,7 @@
 
 use grain_id::GrainId;
 use grain_storage::Row;
-use line_protocol::{Line, LineScratch, read_line, reply_text};
+use line_text::{Line, LineScratch, read_line, reply_text};
 use silo_event::{Reply, Step};
 use std::alloc::Global;
 use std::test::Fail;

@@ -1,6 +1,6 @@
 //! Commits over a log in memory, of which each call fails in turn.
 
-use line_protocol::Output;
+use line_text::Output;
 use log_host::{CommitFault, Did, Fuse, LogPlace, MemoryLog, commit};
 use log_text::{push_line, sum_after};
 use std::alloc::Global;

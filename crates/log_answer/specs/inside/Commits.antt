@@ -3,9 +3,9 @@ use Rattle.std.specs.Prelude.{◌≡◌, ◌⊎◌, ℕ, Bool, true, List, [], �
 use Rattle.std.specs.Io.KnownBytes.{Appends, Keeps}
 use Rattle.grain_logic.specs.Logic.{Logic}
 use Rattle.silo_model.specs.Whole.{Whole}
-use Rattle.line_protocol.specs.Limits.{calls_limit}
-use Rattle.line_protocol.specs.LineRuns.{WrittenInPart}
-use Rattle.line_protocol.specs.Reading.{Reading, TakesPart, left_of}
+use Rattle.line_text.specs.Limits.{calls_limit}
+use Rattle.line_text.specs.Writing.{WrittenInPart}
+use Rattle.line_text.specs.Reading.{Reading, TakesPart, left_of}
 use Rattle.log_text.specs.Lines.{ended}
 use Rattle.log_text.specs.Sums as sums
 use Rattle.log_text.specs.Sums.{own_sums, spelled}

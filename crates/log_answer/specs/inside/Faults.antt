@@ -1,6 +1,6 @@
 -- Which fault of a run another fault comes to.
-use Rattle.line_protocol.specs.declared.fault.LineFault.{LineFault}
-use Rattle.line_protocol.specs.declared.fault.LineFault.TheVariants as line
+use Rattle.line_text.specs.declared.fault.LineFault.{LineFault}
+use Rattle.line_text.specs.declared.fault.LineFault.TheVariants as line
 use Rattle.log_host.specs.declared.committing.CommitFault.{CommitFault}
 use Rattle.log_host.specs.declared.committing.CommitFault.TheVariants as commit
 use Rattle.log_answer.specs.declared.running.LogFault.{LogFault}

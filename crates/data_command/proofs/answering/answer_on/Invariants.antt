@@ -1,6 +1,6 @@
 use Rattle.std.proofs.Common.{◌≡◌, ◌≤◌, ◌+◌, ◌-◌, [], None, false, true}
 use Rattle.std.specs.Io.KnownBytes.{IsAtEnd}
-use Rattle.line_protocol.specs.Reading.{left_of}
+use Rattle.line_text.specs.Reading.{left_of}
 use Rattle.line_answer.specs.Limits.{answered_limit}
 use Rattle.command_parts.specs.Setups.{version_of}
 use Rattle.data_command.specs.Data.{log_view}

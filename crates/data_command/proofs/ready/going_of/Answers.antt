@@ -1,7 +1,7 @@
 use Rattle.std.proofs.Common.{List, Some, ap, inr, subst, sym, ◌∙◌, ℕ}
 use Rattle.std.specs.Prelude.{Vec, option_map}
 use Rattle.std.specs.declared.alloc.Global.{Global}
-use Rattle.line_protocol.proofs.ReadLines.{handed}
+use Rattle.line_text.proofs.ReadLines.{handed}
 use Rattle.log_text.specs.Sums.{spelled}
 use Rattle.data_command.specs.inside.Ready.{IsWrongLog}
 use Rattle.data_command.proofs.ready.going_of.Goals as goal

@@ -1,6 +1,6 @@
 use Rattle.std.proofs.Common.{rules, ◌≡◌, ◌∙◌, ◌++◌, length, drop, string_bytes, ap, sym}
-use Rattle.line_protocol.specs.LineTexts.{ended, texts_of}
-use Rattle.line_protocol.specs.Text.{refusal_line}
+use Rattle.line_text.specs.LineTexts.{ended, texts_of}
+use Rattle.line_text.specs.Text.{refusal_line}
 use Rattle.line_parser.specs.declared.line.LineRefusal.TheVariants.{NotARequest}
 use Rattle.line_answer.proofs.Asked.{asked_line, not_asked}
 use Rattle.line_answer.proofs.lines.answer_said.Goals as goal

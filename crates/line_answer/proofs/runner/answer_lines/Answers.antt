@@ -1,8 +1,8 @@
 use Rattle.std.proofs.Common.{Bool, Ok, refl, ap, ◌∙◌, arith, subst}
-use Rattle.line_protocol.proofs.LinesOfBytes.{LinesTaken-self}
-use Rattle.line_protocol.proofs.ReadLines.{same_said, handed}
-use Rattle.line_protocol.proofs.Run.{cause_of_flushing, cause_of_reading, nothing_ahead, ahead_at_flushing}
-use Rattle.line_protocol.proofs.TakenLines.{Took-none, TakesPart-none}
+use Rattle.line_text.proofs.LinesOfBytes.{LinesTaken-self}
+use Rattle.line_text.proofs.ReadLines.{same_said, handed}
+use Rattle.line_text.proofs.Causes.{cause_of_flushing, cause_of_reading, nothing_ahead, ahead_at_flushing}
+use Rattle.line_text.proofs.TakenLines.{Took-none, TakesPart-none}
 use Rattle.line_answer.specs.Dropped.{MayDrop}
 use Rattle.line_answer.proofs.LineRuns.{Keeps-same, may_stop, setup_kept, line_setup_kept, done_none, done_more, done_left, done_flushed, done_dropped, done_setup, done_all, stops_reading, stops_full, stops_answering}
 use Rattle.line_answer.proofs.runner.answer_lines.Goals as goal

@@ -1,5 +1,5 @@
 use Rattle.std.proofs.Common.{◌≡◌, false}
-use Rattle.line_protocol.specs.Reading.{left_of}
+use Rattle.line_text.specs.Reading.{left_of}
 use Rattle.line_answer.proofs.LineRuns.{LinesDone}
 use Rattle.line_answer.proofs.runner.answer_lines.Given as goal
 

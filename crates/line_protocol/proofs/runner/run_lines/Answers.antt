@@ -1,8 +1,9 @@
 use Rattle.std.proofs.Common.{Ok, refl, ap, ◌∙◌, arith}
-use Rattle.line_protocol.proofs.LinesOfBytes.{LinesTaken-self}
-use Rattle.line_protocol.proofs.ReadLines.{same_said, handed}
-use Rattle.line_protocol.proofs.TakenLines.{Took-none, TakesPart-none}
-use Rattle.line_protocol.proofs.Run.{LinesDone-none, LinesDone-more, LinesDone-kept, LinesDone-flushed, LinesDone-all, cause_of_flushing, cause_of_reading, nothing_ahead, ahead_at_flushing, stops_reading, stops_full, stops_answering}
+use Rattle.line_text.proofs.LinesOfBytes.{LinesTaken-self}
+use Rattle.line_text.proofs.ReadLines.{same_said, handed}
+use Rattle.line_text.proofs.TakenLines.{Took-none, TakesPart-none}
+use Rattle.line_protocol.proofs.Run.{LinesDone-none, LinesDone-more, LinesDone-kept, LinesDone-flushed, LinesDone-all, stops_reading, stops_full, stops_answering}
+use Rattle.line_text.proofs.Causes.{cause_of_flushing, cause_of_reading, nothing_ahead, ahead_at_flushing}
 use Rattle.line_protocol.proofs.runner.run_lines.Goals as goal
 
 pub loop-count-init : goal.loop-count-init

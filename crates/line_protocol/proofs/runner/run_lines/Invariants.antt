@@ -1,5 +1,5 @@
 use Rattle.std.proofs.Common.{◌≡◌}
-use Rattle.line_protocol.specs.Reading.{left_of}
+use Rattle.line_text.specs.Reading.{left_of}
 use Rattle.line_protocol.proofs.Run.{LinesDone}
 use Rattle.line_protocol.proofs.runner.run_lines.Given as goal
 

@@ -1,7 +1,7 @@
 use Rattle.std.proofs.Common.{◌≡◌, ◌++◌, map, take}
 use Rattle.silo_event.specs.Fault.{fault_code}
 use Rattle.silo_event.specs.declared.reply.Reply.{Reply}
-use Rattle.line_protocol.specs.Text.{fault_of}
+use Rattle.line_text.specs.Text.{fault_of}
 use Rattle.line_service.specs.Counts.{code_of}
 use Rattle.line_service.proofs.counting.codes_of.Given as goal
 

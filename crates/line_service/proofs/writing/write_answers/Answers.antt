@@ -2,9 +2,9 @@ use Rattle.std.proofs.Common.{Err, ap, subst, ◌∙◌}
 use Rattle.std.specs.Prelude.{map as map_list}
 use Rattle.std.proofs.lemmas.Result.{err_from_is_err_and}
 use Rattle.std.specs.Io.KnownBytes.{Appends}
-use Rattle.line_protocol.specs.LineTexts.{joined}
+use Rattle.line_text.specs.LineTexts.{joined}
 use Rattle.line_service.specs.ServedText.{StopsWriting, line_of_reply, replies_lines}
-use Rattle.line_protocol.proofs.ReadLines.{handed_on}
+use Rattle.line_text.proofs.ReadLines.{handed_on}
 use Rattle.line_service.proofs.Written.{goes_on, breaks_off}
 use Rattle.line_service.proofs.writing.write_answers.Goals as goal
 

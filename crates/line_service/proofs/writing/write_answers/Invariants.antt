@@ -1,7 +1,7 @@
 use Rattle.std.proofs.Common.{◌≡◌, ◌++◌, ℕ, List, length}
 use Rattle.std.specs.Prelude.{map as map_list}
 use Rattle.std.specs.Io.KnownBytes.{Appends}
-use Rattle.line_protocol.specs.LineTexts.{joined}
+use Rattle.line_text.specs.LineTexts.{joined}
 use Rattle.line_service.specs.ServedText.{replies_lines}
 use Rattle.line_service.proofs.writing.write_answers.Given as goal
 

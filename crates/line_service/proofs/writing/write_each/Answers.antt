@@ -5,11 +5,11 @@ use Rattle.std.specs.Map.{values_of}
 use Rattle.std.specs.Io.KnownBytes.{Appends}
 use Rattle.std.proofs.lemmas.Result.{err_from_is_err_and}
 use Rattle.silo_event.specs.declared.reply.Reply.{Reply}
-use Rattle.line_protocol.specs.LineTexts.{joined}
+use Rattle.line_text.specs.LineTexts.{joined}
 use Rattle.line_service.specs.ServedText.{StopsWriting, replies_lines, line_of_reply}
 use Rattle.line_service.specs.inside.Told.{replies_at}
 use Rattle.line_service.proofs.Collected.{lines_at}
-use Rattle.line_protocol.proofs.ReadLines.{handed_on}
+use Rattle.line_text.proofs.ReadLines.{handed_on}
 use Rattle.line_service.proofs.Written.{goes_on, breaks_off}
 use Rattle.line_service.proofs.writing.write_each.Goals as goal
 

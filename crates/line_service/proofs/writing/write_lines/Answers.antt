@@ -1,7 +1,7 @@
 use Rattle.std.proofs.Common.{Err, [], ◌∷◌, refl, ap, ◌∙◌}
 use Rattle.std.specs.Prelude.{map as map_list}
 use Rattle.std.proofs.lemmas.Result.{err_from_is_err_and}
-use Rattle.line_protocol.proofs.ReadLines.{handed_on}
+use Rattle.line_text.proofs.ReadLines.{handed_on}
 use Rattle.line_service.proofs.Written.{written_none, goes_on, breaks_off, one_line, stops_line}
 use Rattle.line_service.proofs.writing.write_lines.Goals as goal
 

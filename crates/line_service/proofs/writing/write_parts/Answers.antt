@@ -1,7 +1,7 @@
 use Rattle.std.proofs.Common.{Err, ap, ◌∙◌}
 use Rattle.std.specs.Prelude.{map as map_list}
 use Rattle.std.proofs.lemmas.Result.{err_from_is_err_and, IfOk-weaker, IfErr-weaker}
-use Rattle.line_protocol.proofs.ReadLines.{handed_on}
+use Rattle.line_text.proofs.ReadLines.{handed_on}
 use Rattle.line_service.specs.ServedText.{line_of_refusal, replies_lines}
 use Rattle.line_service.proofs.Written.{written_on, stops_before, stops_behind}
 use Rattle.line_service.proofs.writing.write_parts.Goals as goal

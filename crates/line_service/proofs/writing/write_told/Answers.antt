@@ -2,7 +2,7 @@ use Rattle.std.proofs.Common.{List, subst}
 use Rattle.std.specs.Prelude.{IfErr, OnOk}
 use Rattle.std.specs.Io.KnownBytes.{Appends}
 use Rattle.silo_event.specs.declared.reply.Reply.{Reply}
-use Rattle.line_protocol.specs.LineTexts.{joined}
+use Rattle.line_text.specs.LineTexts.{joined}
 use Rattle.line_service.specs.ServedText.{StopsWriting, replies_lines}
 use Rattle.line_service.proofs.Ordered.{collected_in_order}
 use Rattle.line_service.proofs.writing.write_told.Goals as goal

@@ -1,9 +1,9 @@
 use Rattle.std.proofs.Common.{◌+◌, Ok, Err, refl, ap, ◌∙◌, arith}
 use Rattle.std.proofs.KnownBytes.{Keeps-refl}
-use Rattle.line_protocol.specs.Reading.{left_of}
-use Rattle.line_protocol.proofs.ReadLines.{handed}
-use Rattle.line_protocol.proofs.Run.{nothing_ahead}
-use Rattle.line_protocol.proofs.TakenLines.{TakesPart-kept, TakesPart-none}
+use Rattle.line_text.specs.Reading.{left_of}
+use Rattle.line_text.proofs.ReadLines.{handed}
+use Rattle.line_text.proofs.Causes.{nothing_ahead}
+use Rattle.line_text.proofs.TakenLines.{TakesPart-kept, TakesPart-none}
 use Rattle.log_answer.proofs.Room.{counted_on, had_room, used_up}
 use Rattle.log_answer.proofs.Going.{begins_on, gathered_on, going_full, going_memory, going_moved, going_runs, going_stops, going_tables, lasts_ended, lasts_now, lasts_stopped, moved_grown, owns_ended, owns_now, owns_stopped}
 use Rattle.log_answer.proofs.Kept.{stops_behind, stops_commit}

@@ -1,5 +1,5 @@
 use Rattle.std.proofs.Common.{◌≡◌, ◌+◌, false, ℕ}
-use Rattle.line_protocol.specs.Reading.{left_of}
+use Rattle.line_text.specs.Reading.{left_of}
 use Rattle.log_answer.proofs.Going.{GoingOn}
 use Rattle.log_answer.proofs.running.answer_logged.Given as goal
 

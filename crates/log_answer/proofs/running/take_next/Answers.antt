@@ -1,5 +1,5 @@
 use Rattle.std.proofs.Common.{subst}
-use Rattle.line_protocol.specs.Reading.{Reading, TakesCut, left_of}
+use Rattle.line_text.specs.Reading.{Reading, TakesCut, left_of}
 use Rattle.log_answer.proofs.Kept.{same_ok}
 use Rattle.log_answer.proofs.running.take_next.Goals as goal
 

@@ -1,6 +1,6 @@
 use Rattle.std.proofs.Common.{[], ap, if◌then◌else◌, length, map, string_bytes, ℕ, ◌++◌, ◌∙◌}
 use Rattle.line_service.specs.Counts.{codes_of, counts_text}
-use Rattle.line_protocol.proofs.LinesOfBytes.{left_of-fresh}
+use Rattle.line_text.proofs.LinesOfBytes.{left_of-fresh}
 use Rattle.line_service.specs.Reasons.{reasons_behind}
 use Rattle.command_parts.specs.Setups.{setup_of}
 use Rattle.serve_command.proofs.ServingLemmas.{served_lines, stops_read, told_lines}

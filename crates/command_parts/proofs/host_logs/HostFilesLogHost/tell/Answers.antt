@@ -1,5 +1,5 @@
 use Rattle.std.proofs.Common.{List, arith, inr, length, subst, sym, take_all, ℕ}
-use Rattle.line_protocol.specs.LineRuns.{WrittenInPart}
+use Rattle.line_text.specs.Writing.{WrittenInPart}
 use Rattle.command_parts.proofs.host_logs.HostFilesLogHost.tell.Goals as goal
 
 pub returns-clause-err : goal.returns-clause-err

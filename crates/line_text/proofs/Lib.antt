@@ -1,0 +1,11 @@
+pub mod Plain
+pub mod Pushes
+pub mod Pieces
+pub mod LinesOfBytes
+pub mod TakenLines
+pub mod ReadLines
+pub mod Causes
+pub mod ReplyTexts
+pub mod Saids
+pub mod ValueTexts
+pub mod Gathering

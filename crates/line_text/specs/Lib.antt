@@ -1,0 +1,9 @@
+pub mod Limits
+pub mod Lines
+pub mod Reading
+pub mod Writing
+pub mod Text
+pub mod LineTexts
+pub mod Calls
+pub mod Gathered
+pub mod inside
