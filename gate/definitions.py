@@ -17,8 +17,8 @@ CRATES = ROOT / "crates"
 PROMISES = ROOT / "docs" / "promises.md"
 # the crates whose exported functions make the promises
 PROMISING = ["silo_program", "silo_words", "command_parts", "line_commands", "serve_command", "journal_commands", "rows_command",
-             "line_service", "line_answer", "line_protocol", "worker_host", "client_lanes", "tenant_audit", "tenant_machine", "journal_text",
-             "line_parser", "silo_core"]
+             "line_service", "line_answer", "line_protocol", "line_text", "worker_host", "client_lanes", "tenant_audit", "tenant_machine",
+             "journal_text", "line_parser", "silo_core"]
 # traits that a promise takes as given
 PREMISES = [("grain_storage", "GrainStorage"), ("grain_logic", "GrainLogic"), ("command_parts", "WholeFiles")]
 

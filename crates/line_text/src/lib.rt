@@ -1,4 +1,4 @@
-//! The lines of an input, and the lines of replies: texts, with what is noted of the calls that read and write them.
+//! The lines of an input, the lines of replies, and what reads and writes them.
 //!
 //! A layer above may rely on this: `reply_text` is the exact text of a reply, each line of an input is taken
 //! once and in order, and a fault has its cause. The texts are in `specs/Text.antt`, what is written for an input in
