@@ -24,6 +24,7 @@ use std::alloc::{AllocError, Global};
 /// While more calls of a tenant wait to be delivered, or the messages of those that wait have more bytes, the turns of those that are
 /// delivered are given up.
 const WAITING_CALLS: usize = 10_000;
+
 const WAITING_BYTES: u64 = 1_048_576;
 
 /// Bytes of messages after which no more is delivered behind one line.
