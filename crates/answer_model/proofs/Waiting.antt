@@ -1,13 +1,14 @@
 -- A turn that is given up sends nothing, so a call that is delivered while too many wait leaves the others alone.
-use Rattle.silo_model.proofs.Common.{if◌then◌else◌, ◌==◌, ◌∙◌, ◌∷◌, ◌≡◌, Abandon, Account, AcrossTenants, Activate, AllByRecursion, Begin}
-use Rattle.silo_model.proofs.Common.{Bool, Context, Deliver, Effect, Entry, Err, Fault, Grain, List, Load, Logic, MailboxFull, NoActivation}
-use Rattle.silo_model.proofs.Common.{NoNumber, None, Ok, Option, Party, Request, Result, Send, Some, Step, Whole, [], ap, called, change_at}
-use Rattle.silo_model.proofs.Common.{change_option, context_at, false, first_from, gate, inl, inr, keep, last_number, length, nat_lt, refl}
-use Rattle.silo_model.proofs.Common.{same_text, sender_by, sends_of, shown_to, spread, subst, sym, text_cmp_exact, text_cmp_total, true}
-use Rattle.silo_model.proofs.Common.{true≢false, unwrap_or, whole_run, whole_step, with_sends, ℕ}
+use Rattle.silo_model.proofs.Common.{if◌then◌else◌, ◌<◌, ◌==◌, ◌||◌, ◌∙◌, ◌∷◌, ◌≡◌, ◌⊎◌, Abandon, Account, AcrossTenants, Activate}
+use Rattle.silo_model.proofs.Common.{AllByRecursion, Begin, Bool, Context, Deliver, Effect, Entry, Err, Fault, Grain, List, Load, Logic}
+use Rattle.silo_model.proofs.Common.{MailboxFull, NoActivation, NoNumber, None, Ok, Option, Party, Request, Result, Send, Some, Step, Whole}
+use Rattle.silo_model.proofs.Common.{[], ap, called, change_at, change_option, context_at, false, first_from, gate, inl, inr, keep}
+use Rattle.silo_model.proofs.Common.{last_number, length, lt-ltb, nat_lt, refl, same_text, sender_by, sends_of, shown_to, spread, subst}
+use Rattle.silo_model.proofs.Common.{sym, text_cmp_exact, text_cmp_total, true, true≢false, unwrap_or, whole_run, whole_step, with_sends, ℕ}
 use Rattle.std.specs.FinMap as map
 use Rattle.request_codec.specs.Call as codec
 use Rattle.silo_event.specs.declared.reply.Party.TheVariants as party
+use Rattle.tenant_accounts.specs.Sends.{sent_bytes}
 use Rattle.silo_model.specs.Calls.{admitted, call_settled, kind_gate, room}
 use Rattle.silo_model.specs.Sends.{on_account}
 use Rattle.silo_model.proofs.Changes.{get-change_same}
@@ -17,8 +18,8 @@ use Rattle.silo_model.proofs.Runs.{whole_after}
 use Rattle.silo_model.proofs.SendSteps.{by_called}
 use Rattle.silo_model.proofs.Tests.{on_found}
 use Rattle.answer_model.specs.Answering.{Luck, Stepper, can, given_up_if, is_accepted, out_of_memory, raising, serving, serving_if}
-use Rattle.answer_model.specs.Answering.{too_many_wait, turn_of, turn_of_first, turning, whole_stepper}
-use Rattle.answer_model.specs.Waiting.{NoneAdded}
+use Rattle.answer_model.specs.Answering.{too_many_wait, turn_of, turn_of_first, turning, waiting_bytes, waiting_calls, whole_stepper}
+use Rattle.answer_model.specs.Waiting.{NoneAdded, TooMany}
 use Rattle.answer_model.proofs.Served.{account_of, source_own}
 use Rattle.finite_maps.proofs.Lists.{all_append}
 
@@ -180,6 +181,18 @@ given_up : (b : Bool) (luck : Luck) → b ≡ true → (given_up_if b luck).clos
 given_up true luck many = refl
 given_up false luck many = absurd (true≢false (sym many))
 
+-- the test of it
+more_than : (a b c d : ℕ) → (a < b) ⊎ (c < d) → (nat_lt a b || nat_lt c d) ≡ true
+more_than a b c d (inl more) = ap (λ x. x || nat_lt c d) (lt-ltb a b more)
+more_than a b c d (inr more) = ap (λ x. nat_lt a b || x) (lt-ltb c d more) ∙ or_true (nat_lt a b)
+  where
+    or_true : (x : Bool) → (x || true) ≡ true
+    or_true true = refl
+    or_true false = refl
+
+many_wait : (sends : List Send) → TooMany sends → too_many_wait sends ≡ true
+many_wait sends many = more_than waiting_calls (length sends) waiting_bytes (sent_bytes sends) many
+
 pub none_added : NoneAdded
 none_added logic setup journal w tenant oldest others luck leads is many =
     let g = oldest.source in
@@ -190,6 +203,6 @@ none_added logic setup journal w tenant oldest others luck leads is many =
     let served = serving_if (whole_stepper logic) w next (Some oldest.message.target) how in
     ap (λ accounts. sends_of (map.get accounts tenant))
     (run_leaves logic served next
-    (served_leaves logic w next (Some oldest.message.target) how (given_up (too_many_wait (oldest ∷ others)) luck many)))
+    (served_leaves logic w next (Some oldest.message.target) how (given_up (too_many_wait (oldest ∷ others)) luck (many_wait (oldest ∷ others) many))))
     ∙ ap (λ t. sends_of (map.get next.accounts t)) (sym own)
     ∙ own_left logic w g known.0 (ap (map.get w.accounts) own ∙ known.1) oldest others known.2

@@ -27,8 +27,8 @@ pub fn answered_certainly()
     ensures { AnsweredCertainly }
 {}
 
-/// So it is if the storage didn't fail and no turn was given up for want of memory: a turn that is given up since too
-/// many calls wait, or messages of too many bytes, is given up with good luck too.
+/// So it is if the storage didn't fail and no turn was abandoned for want of memory: one that is abandoned since too many
+/// calls wait, or messages of too many bytes, is abandoned with good luck too.
 #[tactic(auto, using(crate::proofs::Certain::answered_surely))]
 pub fn answered_surely()
     ensures { AnsweredSurely }
