@@ -1,11 +1,11 @@
-use Rattle.std.proofs.Common.{◌≡◌, sym, ap, ◌∙◌}
+use Rattle.std.proofs.Common.{sym, ap, ◌∙◌}
 use Rattle.request_codec.specs.Tree as tree
 use Rattle.turn_arena.proofs.Levels.{node_value-Map}
-use Rattle.turn_arena.specs.NodeValue.{node_value, field_values}
+use Rattle.turn_arena.specs.NodeValue.{node_value}
 use Rattle.grain_logic.proofs.same.+comparing.Goals as goal
 
 pub is_same-returns-in-Map-Map : goal.is_same-returns-in-Map-Map
 is_same-returns-in-Map-Map t c = λ same.
-    let is : node_value c.args.node ≡ tree.map (field_values c.in-Map-Map.fields.now) = ap node_value c.in-Map-Map.is-0 ∙ node_value-Map c.in-Map-Map.fields in
-    let other : node_value c.args.other ≡ tree.map (field_values c.in-Map-Map.others.now) = ap node_value c.in-Map-Map.is-1 ∙ node_value-Map c.in-Map-Map.others in
-    is ∙ ap tree.map (c.are_same_fields.ensures same) ∙ sym other
+    ap node_value c.in-Map-Map.is-0 ∙ node_value-Map c.in-Map-Map.fields
+    ∙ ap tree.map (c.are_same_fields.ensures same)
+    ∙ sym (ap node_value c.in-Map-Map.is-1 ∙ node_value-Map c.in-Map-Map.others)
