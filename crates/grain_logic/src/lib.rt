@@ -19,6 +19,7 @@ pub mod length;
 mod logic;
 mod plan;
 mod reading;
+mod same;
 mod setting;
 pub mod shared;
 mod shortcut;

@@ -7,10 +7,12 @@ ghost use Rattle.request_codec.specs.Tree.{Tree, integer};
 ghost use Rattle.turn_arena.specs.NodeValue.{node_value};
 ghost use Rattle.grain_logic.specs.Finished.{planned_shown, sent};
 ghost use Rattle.grain_logic.specs.Laws.{FitsState, FitsMessage};
+ghost use Rattle.grain_logic.specs.inside.LastMessage.{EndsIn};
 ghost use Rattle.grain_logic.specs.Planned.{send_shown, outcome_shown, plan_shown, NodesFit};
 
 use crate::fault::MethodFault;
 use crate::plan::{Plan, Send};
+use crate::same::is_same;
 use crate::turn::OwnedPlan;
 use grain_id::GrainId;
 use request_codec::limits::STATE_ROOM;
@@ -79,7 +81,48 @@ fn outcome_of(
     }
 }
 
-/// Each call that is sent, with the grain that it is sent to.
+/// The message that was written last, if the call before, whose message it is, is this one too.
+#[inline(always)]
+fn last_if_same<'w>(
+    written: &'w [(GrainId, Message)],
+    before: Option<(&str, Node<'_>)>,
+    method: &str,
+    args: Node<'_>,
+) -> Option<&'w Message>
+    requires { IfSome before (λ call. EndsIn (asks call.0.now (node_value call.1)) written.now) }
+    ensures { IfSome result (λ message. message.now ≡ asks method.now (node_value args.entry)) }
+{
+    let (method_before, args_before) = before?;
+    if method != method_before {
+        return None;
+    }
+    if !is_same(args, args_before) {
+        return None;
+    }
+    let (_, message) = written.last()?;
+    Some(message)
+}
+
+/// The message of a call. It shares the block of the message before if that one is the same.
+#[inline(always)]
+fn message_after(
+    alloc: Global,
+    written: &[(GrainId, Message)],
+    before: Option<(&str, Node<'_>)>,
+    method: &str,
+    args: Node<'_>,
+) -> Result<Message, AllocError>
+    requires fits { FitsMessage (asks method.now (node_value args)) }
+    requires last { IfSome before (λ call. EndsIn (asks call.0.now (node_value call.1)) written.now) }
+    ensures { IfOk result (λ message. message ≡ asks method.now (node_value args.entry)) }
+{
+    match last_if_same(written, before, method, args) {
+        Some(message) => Ok(message.clone()?),
+        None => message_of(alloc, method, args),
+    }
+}
+
+/// Each call that is sent, with the grain that it is sent to. Equal messages, one after another, share one block.
 #[inline(always)]
 fn sends_of(alloc: Global, sends: Vec<Send<'_>>) -> Result<Vec<(GrainId, Message)>, AllocError>
     requires { AllByRecursion (λ send. FitsMessage (asks send.method.now (node_value send.args))) sends.items }
@@ -90,12 +133,15 @@ fn sends_of(alloc: Global, sends: Vec<Send<'_>>) -> Result<Vec<(GrainId, Message
         return Ok(Vec::new(alloc));
     }
     let mut written = Vec::new(alloc);
+    let mut before = None;
     'sends: for Send {
         target,
         method,
         args,
     } in sends {
-        written.push((target, message_of(alloc, method, args)?))?;
+        let message = message_after(alloc, written.as_slice(), before, method, args)?;
+        written.push((target, message))?;
+        before = Some((method, args));
     }
     Ok(written)
 }
