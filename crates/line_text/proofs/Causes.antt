@@ -1,5 +1,5 @@
 -- What a fault of reading or of writing comes from, and what is read ahead after it.
-use Rattle.std.proofs.Common.{◌≡◌, Result, Err}
+use Rattle.std.proofs.Common.{◌≡◌, true, Result, Err}
 use Rattle.line_text.specs.Calls.{HasCause, HasNothingAhead, StopsReading}
 use Rattle.line_text.specs.Reading.{Reading, IsFresh}
 use Rattle.line_text.specs.declared.calls.ReaderCalls.{ReaderCalls}

@@ -1,6 +1,6 @@
 -- Texts that stand in JSON as they are.
-use Rattle.std.proofs.Common.{◌≡◌, ◌≢◌, ◌≤◌, ◌++◌, ℕ, List, [], ◌∷◌, Bool, true, false, true≢false, ◌&&◌, ◌==◌, nat_lt, refl, ap, ap₂, sym, ◌∙◌, append_assoc, arith}
-use Rattle.std.specs.Prelude.{cond, not, ◌||◌, IsTrue}
+use Rattle.std.proofs.Common.{◌≡◌, ◌≢◌, ◌≤◌, ◌++◌, ℕ, List, [], ◌∷◌, Bool, true, false, true≢false, ◌==◌, nat_lt, Result, Ok, Err, OnOk, refl, ap, ap₂, sym, ◌∙◌, append_assoc, arith}
+use Rattle.std.specs.Prelude.{cond, not, ◌||◌, IsTrue, is_ok}
 use Rattle.std.specs.List.{list_all}
 use Rattle.std.proofs.lemmas.Bool.Decides.{Decides-eqb, nat_tests}
 use Rattle.std.proofs.lemmas.Grind.{flat_map-append}
@@ -21,7 +21,7 @@ other x k large small = by (x == k) refl
   where
     by : (b : Bool) → (x == k) ≡ b → (x == k) ≡ false
     by false is = is
-    by true is = absurd (true≢false (sym small ∙ sym (ap (λ y. nat_lt y 32) ((Decides-eqb x k).2 is)) ∙ large))
+    by true is = absurd (true≢false (sym small ∙ sym (ap (λ y. nat_lt y 32) ((Decides-eqb x k).0 is)) ∙ large))
 
 module _ (x : ℕ) (large : nat_lt x 32 ≡ false) (no_quote : (x == 34) ≡ false) (no_slash : (x == 92) ≡ false) where
   no_letter : escape_letter x ≡ 0
@@ -29,11 +29,15 @@ module _ (x : ℕ) (large : nat_lt x 32 ≡ false) (no_quote : (x == 34) ≡ fal
       (λ i. cond (no_quote i || no_slash i) x
       (cond (other x 8 large refl i) 98 (cond (other x 12 large refl i) 102 (cond (other x 10 large refl i) 110 (cond (other x 13 large refl i) 114 (cond (other x 9 large refl i) 116 0))))))
 
+  -- whatever a control character has
+  own_beside : (control : List ℕ) → cond (nat_lt 0 (escape_letter x)) (92 ∷ escape_letter x ∷ []) (cond (nat_lt x 32) control (x ∷ [])) ≡ x ∷ []
+  own_beside control =
+      ap (λ (letter : ℕ). cond (nat_lt 0 letter) (92 ∷ letter ∷ []) (cond (nat_lt x 32) control (x ∷ []))) no_letter
+      ∙ ap (λ (b : Bool). cond b control (x ∷ [])) large
+
   own_byte : escape_byte x ≡ x ∷ []
   unfolding escape_byte
-  own_byte =
-      ap (λ (letter : ℕ). cond (nat_lt 0 letter) (92 ∷ letter ∷ []) (cond (nat_lt x 32) _ (x ∷ []))) no_letter
-      ∙ ap (λ (b : Bool). cond b _ (x ∷ [])) large
+  own_byte = own_beside _
 
 own_escape : (x : ℕ) → stands x ≡ true → escape_byte x ≡ x ∷ []
 own_escape x is =
@@ -47,8 +51,15 @@ escapes (x ∷ s) is =
     let both = and_parts (stands x) (list_all stands s) is in
     flat_map-cons escape_byte x s ∙ ap₂ (λ l m. l ++ m) (own_escape x both.0) (escapes s both.1)
 
-pub quoted_as_is : (s : List ℕ) → list_all stands s ≡ true → quoted s ≡ 34 ∷ (s ++ 34 ∷ [])
+quoted_as_is : (s : List ℕ) → list_all stands s ≡ true → quoted s ≡ 34 ∷ (s ++ 34 ∷ [])
 quoted_as_is s is = ap (λ escaped. 34 ∷ (escaped ++ 34 ∷ [])) (escapes s is)
+
+-- what is left where a text was put between two quotes as it is
+pub as_is_after : {X E : Type 0} (r : Result X E) (part before one two new : List ℕ) → list_all stands part ≡ true → one ≡ before ++ 34 ∷ [] → two ≡ one ++ part → new ≡ cond (is_ok r) (two ++ 34 ∷ []) two → OnOk r (new ≡ before ++ quoted part)
+as_is_after (Ok x) part before one two new is e f g =
+    g ∙ ap (λ l. l ++ 34 ∷ []) (f ∙ ap (λ l. l ++ part) e)
+    ∙ append_assoc (before ++ 34 ∷ []) part (34 ∷ []) ∙ append_assoc before (34 ∷ []) (part ++ 34 ∷ []) ∙ ap (λ l. before ++ l) (sym (quoted_as_is part is))
+as_is_after (Err x) part before one two new is e f g = tt
 
 escape_byte-plain : (x : ℕ) → 45 ≤ x → x ≢ 92 → escape_byte x ≡ x ∷ []
 escape_byte-plain x h apart = own_byte x (grind (arith, nat_tests)) (grind (arith, nat_tests)) (grind (arith, nat_tests))
