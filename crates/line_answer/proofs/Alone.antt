@@ -132,11 +132,9 @@ module _ (logic : Logic) (setup : Setup) (n : ℕ) where
   line_surely w (line.Refusal r) lucks reached idle memory all = (refl, refl)
   line_surely w (line.Step s) lucks reached idle memory all = by_test (is_asked s) refl
     where
-      abbrev asked : Asked
-      asked = record { step = s; lucks = lucks }
-
       by_test : (b : Bool) → is_asked s ≡ b → AsWithGoodLuck w (line.Step s) lucks
       by_test true is =
+          let asked : Asked = record { step = s; lucks = lucks } in
           let all_asked : (lucks : List Luck) → asks_by (line.Step s) lucks ≡ record { step = s; lucks = lucks } ∷ [] = λ lucks. ap (λ b. asked_if b s lucks) is in
           let tried = subst (λ asks. AllStored (done_by (whole_step logic) w (all_steps of_whole n w asks))) (all_asked lucks) all in
           let same =
