@@ -5,8 +5,10 @@ ghost use Rattle.turn_arena.specs.NodeValue.{node_value, node_values, field_valu
 
 use turn_arena::{Field, Node};
 
-/// Whether the nodes show the same value. It looks no further than the first part that differs.
+/// Whether the nodes show the same value. It looks no further than the first part that differs. That they don't if it says
+/// so isn't claimed: a caller then only makes twice what it might share.
 #[cycle(comparing)]
+#[inline(always)]
 pub(crate) fn is_same(node: Node<'_>, other: Node<'_>) -> bool
     ensures { IsTrue result → node_value node.entry ≡ node_value other.entry }
 {

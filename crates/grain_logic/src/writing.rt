@@ -81,7 +81,7 @@ fn outcome_of(
     }
 }
 
-/// The message that was written last, if the call before, whose message it is, is this one too.
+/// The message that was written last, which is that of the call before, if this call is the same.
 #[inline(always)]
 fn last_if_same<'w>(
     written: &'w [(GrainId, Message)],
