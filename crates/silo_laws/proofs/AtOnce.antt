@@ -1,14 +1,15 @@
 -- What is done for a counter's calls that are answered at once.
-use Rattle.silo_model.proofs.Common.{if◌then◌else◌, ◌++◌, ◌+◌, ◌∙◌, ◌∷◌, ◌≡◌, Account, Activate, Begin, Call, Client, End, Entry, Grain}
-use Rattle.silo_model.proofs.Common.{List, Load, Logic, None, Option, Request, Setup, Some, Step, Store, Whole, ℕ, ℤ, [], ap, append-nil}
-use Rattle.silo_model.proofs.Common.{counters, eq-eqb, false, get-insert_same, is_some, length, opening, refl, sends_of, suc}
-use Rattle.silo_model.proofs.Common.{text_cmp_exact, text_cmp_total, true, unwrap_or, whole_run, whole_step, zero}
+use Rattle.silo_model.proofs.Common.{if◌then◌else◌, ◌++◌, ◌∙◌, ◌∷◌, ◌≡◌, Account, Activate, Begin, Call, Client, End, Entry, Grain, List}
+use Rattle.silo_model.proofs.Common.{Load, Logic, None, Option, Request, Setup, Some, Step, Store, Whole, [], ap, append-nil, counters}
+use Rattle.silo_model.proofs.Common.{eq-eqb, false, get-insert_same, is_some, length, opening, refl, sends_of, suc, text_cmp_exact}
+use Rattle.silo_model.proofs.Common.{text_cmp_total, true, unwrap_or, whole_run, whole_step, zero, ℕ, ℤ}
+use Rattle.std.specs.Prelude.{◌-◌}
 use Rattle.std.specs.FinMap as map
 use Rattle.grain_logic.specs.Adding.{fits_64}
 use Rattle.silo_model.specs.FirstCall.{add_call, first_call}
 use Rattle.silo_model.proofs.Journals.{journals_replay}
-use Rattle.answer_model.specs.Answering.{Stepper, answering, bringing, closing, deliveries, delivering, good, raising, run, serving}
-use Rattle.answer_model.specs.Answering.{serving_if, turn_of, turn_of_first, turning, well, whole_stepper}
+use Rattle.answer_model.specs.Answering.{Stepper, answering, bringing, closing, delivered_bytes, deliveries, delivering, good, oldest_bytes}
+use Rattle.answer_model.specs.Answering.{raising, run, serving, serving_if, turn_of, turn_of_first, turning, well, whole_stepper}
 use Rattle.answer_model.proofs.Closed.{run_done}
 use Rattle.silo_laws.specs.AtOnce.{FirstCallAtOnce, SecondCallAtOnce, answered_from, asked_to_add}
 use Rattle.silo_laws.specs.Counting.{MayCount, second_call}
@@ -61,20 +62,21 @@ module _ (logic : Logic) where
       ∙ ap (λ steps. s ∷ steps) serving_is
 
   -- nothing is delivered where nothing is sent
-  none_delivered : (n : ℕ) (w : Whole) (tenant : List ℕ) → sends_of (map.get w.accounts tenant) ≡ [] → deliveries by n w tenant [] ≡ []
-  none_delivered zero w tenant none = refl
-  none_delivered (suc n) w tenant none =
-      ap (λ sends. delivering by w sends good ++ deliveries by n (run by w (delivering by w sends good)) tenant []) none
-      ∙ none_delivered n w tenant none
+  none_delivered : (n room : ℕ) (w : Whole) (tenant : List ℕ) → sends_of (map.get w.accounts tenant) ≡ [] → deliveries by n room w tenant [] ≡ []
+  none_delivered zero room w tenant none = refl
+  none_delivered (suc n) zero w tenant none = refl
+  none_delivered (suc n) (suc room) w tenant none =
+      ap (λ sends. delivering by w sends good ++ deliveries by n (suc room - oldest_bytes sends) (run by w (delivering by w sends good)) tenant []) none
+      ∙ none_delivered n (suc room - 0) w tenant none
 
   -- a call is answered by its steps alone
   answered_by : (n : ℕ) (w after : Whole) (caller : Client) (id : ℕ) (g : Grain) (k : ℤ) (steps : List Step)
       → bringing by w (Call caller id g (add_call k)) (Some g) good ≡ steps → whole_run logic w steps ≡ after → sends_of (map.get after.accounts caller.tenant) ≡ []
       → answering by n w (asked_to_add caller id g k) ≡ steps
   answered_by n w after caller id g k steps brings runs none =
-      ap (λ steps. steps ++ deliveries by n (run by w steps) caller.tenant []) brings
-      ∙ ap (λ x. steps ++ deliveries by n x caller.tenant []) runs
-      ∙ ap (λ more. steps ++ more) (none_delivered n after caller.tenant none)
+      ap (λ steps. steps ++ deliveries by n delivered_bytes (run by w steps) caller.tenant []) brings
+      ∙ ap (λ x. steps ++ deliveries by n delivered_bytes x caller.tenant []) runs
+      ∙ ap (λ more. steps ++ more) (none_delivered n delivered_bytes after caller.tenant none)
       ∙ append-nil steps
 
 -- ---- the first call

@@ -4,7 +4,7 @@
 ghost use Rattle.silo_laws.specs.AskedSteps.{AskedSteps};
 ghost use Rattle.silo_laws.specs.AtOnce.{FirstCallAtOnce, SecondCallAtOnce};
 ghost use Rattle.silo_laws.specs.Audits.{ChangedReplyFound, FirstReplyChecked, StepsCounted, StopFound, TableComesFirst};
-ghost use Rattle.silo_laws.specs.Behind.{DeliveredBehind, DeliversAtMost};
+ghost use Rattle.silo_laws.specs.Behind.{DeliveredBehind, DeliversAtMost, DeliversBytes};
 ghost use Rattle.silo_laws.specs.Grains.{GrainsAreTold};
 ghost use Rattle.silo_laws.specs.Limits.{LimitsHold};
 ghost use Rattle.silo_laws.specs.Marks.{FailuresMarked};
@@ -95,6 +95,12 @@ pub fn second_call_at_once()
 /// At most n deliveries follow what is asked.
 pub fn delivers_at_most()
     ensures { DeliversAtMost }
+{}
+
+/// Nor does more follow it once the messages of what was delivered have 262,144 bytes together: those of
+/// all but the last have fewer.
+pub fn delivers_bytes()
+    ensures { DeliversBytes }
 {}
 
 /// If n isn't 0 and something that the tenant's grains sent is left, the oldest of it is delivered
