@@ -8,11 +8,18 @@ from . import codes
 from .lines import NOT_NOW_TEXT, lines_of, read_line, refusal_text, reply_text
 from .names import Grain
 from .silo import DONE, NOT_NOW, Silo
-from .steps import (OF_A_CALLER, OF_NOBODY, Activate, Begin, Call, Deliver, End, Load, Step, Store, owner)
+from .steps import (OF_A_CALLER, OF_NOBODY, Abandon, Activate, Begin, Call, Deliver, End, Load, Step, Store, owner)
+from .values import message_length
 
 DEFAULT_SENDS = 1_000
 MAX_SENDS = 1_000_000
 MAX_ANSWERED_LINES = 1_073_741_824
+# While more calls of a tenant wait to be delivered, or the messages of those that wait have more bytes, the turn of each that is delivered
+# is given up: one that is served may send four others.
+WAITING_CALLS = 10_000
+WAITING_BYTES = 1_048_576
+# Once the messages of what was delivered behind a line have as many bytes, no more is delivered behind it.
+DELIVERED_BYTES = 262_144
 
 
 def is_asked(step: Step) -> bool:
@@ -20,33 +27,44 @@ def is_asked(step: Step) -> bool:
     return isinstance(step, OF_A_CALLER + OF_NOBODY) and not getattr(step, "failed", False)
 
 
-def bring(silo: Silo, step: Step, grain: Optional[Grain]) -> str:
+def bring(silo: Silo, step: Step, grain: Optional[Grain], is_given_up: bool = False) -> str:
     """Takes a step. The request that it brought to the grain is served, if it was accepted: nobody is told anything."""
     before = len(silo.replies)
     answer = silo.apply(step)
     if grain is not None and len(silo.replies) == before:
-        serve(silo, grain)
+        serve(silo, grain, is_given_up)
     return answer
 
 
-def serve(silo: Silo, grain: Grain) -> None:
-    """The grain is brought up, and its first request is given its turn, which ends or else is stored."""
+def serve(silo: Silo, grain: Grain, is_given_up: bool) -> None:
+    """The grain is brought up, and its first request is given its turn, which ends or else is stored, or is given up."""
     if silo.apply(Activate(grain)) == DONE:
         silo.apply(Load(grain))
     entry = silo.machine(grain.tenant).entries.get(grain)
     number = entry.queue[0].number if entry is not None and entry.queue else None
     if silo.apply(Begin(grain)) == NOT_NOW:
         return
-    if silo.apply(End(grain, number)) == NOT_NOW:
+    if is_given_up:
+        silo.apply(Abandon(grain, number))
+    elif silo.apply(End(grain, number)) == NOT_NOW:
         silo.apply(Store(grain, number))
 
 
+def bytes_of(sends: list) -> int:
+    """How many bytes the messages have of what grains sent."""
+    return sum(message_length(sent.method, sent.args) for _source, sent in sends)
+
+
 def deliver(silo: Silo, tenant: str, most: int) -> None:
-    """The oldest of what the tenant's grains sent, and so on, so many times at most."""
+    """The oldest of what the tenant's grains sent, and so on, so many times at most, and while there is room for more bytes."""
     sends = silo.machine(tenant).sends
-    while most > 0 and sends:
+    waiting, room = bytes_of(sends), DELIVERED_BYTES
+    while most > 0 and room > 0 and sends:
         source, sent = sends[0]
-        bring(silo, Deliver(source), sent.target)
+        oldest, others = bytes_of(sends[:1]), len(sends) - 1
+        bring(silo, Deliver(source), sent.target, len(sends) > WAITING_CALLS or waiting > WAITING_BYTES)
+        waiting += bytes_of(sends[others:]) - oldest
+        room -= oldest
         most -= 1
 
 

@@ -17,6 +17,7 @@ from .rows import ROWS
 from .running_rows import RUNNING_CALLS
 from .switch_rows import SWITCHED, SWITCH_CALLS
 from .tenant_rows import TENANT_CALLS, TENANT_ROWS
+from .waiting_rows import WAITING_CALLS
 
 
 def input_of(row: Row) -> bytes:
@@ -56,7 +57,7 @@ def main() -> int:
     passed = failed = 0
     checks = [(row.name, difference, row) for row in (*ROWS, *SWITCHED, *ONCE, *TENANT_ROWS)]
     calls = (*CALL_ROWS, *LOG_ROWS, *CHECKPOINT_ROWS, *DATA_CALLS, *FOLDER_CALLS, *RUNNING_CALLS, *SWITCH_CALLS, *CUT_CALLS, *ONCE_CALLS,
-             *TENANT_CALLS)
+             *TENANT_CALLS, *WAITING_CALLS)
     checks += [(check.__name__.replace("_", " "), call_difference, check) for check in calls]
     for name, run, row in checks:
         what = run(row)

@@ -15,6 +15,7 @@ from .row import Row
 from .short_lines import (A, B, BLUE, BLUE_A, LINE_TOO_LONG, NOT_A_REQUEST, NOT_NOW, RELAY, SHEET, SWEEP, at,
                           begin, call, end, no, ok, poke, run, save, seen, status, text, tick, told, up)
 from .told_rows import TOLD
+from .waiting_rows import WAITING
 
 TWO_TENANTS = ["red:2:4", "blue:2:4"]
 
@@ -358,4 +359,4 @@ LANES = [
 ]
 
 ROWS = [*COUNTERS, *STORAGE, *OTHER_KINDS, *TENANTS, *CLOCK, *RESTING, *LINES, *BYTES_IN_LINES, *WORDS, *AGES_OF_KINDS, *LANES,
-        *TOLD, *JOURNALS, *BYTES_IN_JOURNALS, *MIGRATED, *ANSWERED, *DATA, *FOLDERS, *LISTED]
+        *TOLD, *JOURNALS, *BYTES_IN_JOURNALS, *MIGRATED, *ANSWERED, *WAITING, *DATA, *FOLDERS, *LISTED]
