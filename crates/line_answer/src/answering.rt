@@ -246,7 +246,7 @@ impl<S: GrainStorage, L: GrainLogic> AnsweringSilo<S, L> {
     /// Answers what a client asks, a tick or a sweep: its step is taken; if it is a call that is accepted, its grain is
     /// brought up and it is given its turn; and then at most `most` of the requests that the grains of the client's
     /// tenant sent are delivered, the oldest first, each with its turn, until their messages have 262,144 bytes. While more
-    /// than 10,000 of them wait, or messages of more than 1,048,576 bytes, the turns of those that are delivered are given up.
+    /// than 10,000 of them wait, or messages of more than 1,048,576 bytes, the turns of those that are delivered are abandoned.
     /// Returns whether the step was possible: only a tick may be impossible.
     ///
     /// # Errors

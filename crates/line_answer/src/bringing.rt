@@ -22,12 +22,12 @@ use silo_event::Step;
 use std::alloc::{AllocError, Global};
 
 /// While more calls of a tenant wait to be delivered, or the messages of those that wait have more bytes, the turns of those that are
-/// delivered are given up.
+/// delivered are abandoned.
 const WAITING_CALLS: usize = 10_000;
 
 const WAITING_BYTES: u64 = 1_048_576;
 
-/// Bytes of messages after which no more is delivered behind one line.
+/// Once the messages of what was delivered after a line have as many bytes, no more is delivered.
 const DELIVERED_BYTES: u64 = 262_144;
 
 /// What became of a step: whether it was possible, and whether there was memory to close the turns that it brought.
@@ -38,7 +38,7 @@ pub struct Taken {
 }
 
 /// Takes a step, and serves the request that it brought to the grain, if it was accepted: then there is no reply to
-/// anybody yet. If the request's turn is to be given up, it is abandoned.
+/// anybody yet. With `gives_up` the request's turn is abandoned.
 ///
 /// # Errors
 ///
@@ -87,7 +87,8 @@ fn is_same(before: usize, after: usize) -> bool
     after == before
 }
 
-/// The oldest of what a tenant's grains sent: who sent it to whom, how many bytes its message has, and whether its turn is to be given up.
+/// The oldest of what a tenant's grains sent: who sent it to whom, how many bytes its message has, and whether its turn is to be
+/// abandoned.
 #[derive(Drop)]
 struct Oldest {
     source: GrainId,
@@ -96,7 +97,7 @@ struct Oldest {
     gives_up: bool,
 }
 
-/// Whether so much of what the tenant's grains sent waits that turns are to be given up.
+/// Whether too many calls that the tenant's grains sent wait, or too many bytes of their messages.
 fn too_many_wait<S: GrainStorage, L: GrainLogic>(silo: &Silo<S, L>, tenant: &str) -> bool
     ensures { result ≡ too_many_wait (sends_of (map.get silo.now.whole.accounts tenant.now)) }
 {

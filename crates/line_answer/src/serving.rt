@@ -160,7 +160,7 @@ fn abandon<S: GrainStorage, L: GrainLogic>(
     Ok(())
 }
 
-/// Closes an open turn. If it is to be given up, or if there is no memory for its end, it is abandoned. Returns whether there was memory.
+/// Closes an open turn. With `gives_up`, or if there is no memory for its end, it is abandoned. Returns whether there was memory.
 ///
 /// # Errors
 ///
@@ -199,7 +199,7 @@ pub fn make_free(bump: &mut Bump) {
     }
 }
 
-/// Serves the request that waits at the grain; if its turn is to be given up, it is abandoned. Its turn runs in the arena, on which
+/// Serves the request that waits at the grain; with `gives_up` its turn is abandoned. The turn runs in the arena, on which
 /// `make_free` is called afterwards. Returns whether there was memory to close the turn.
 ///
 /// # Errors
