@@ -75,7 +75,10 @@ module _ (logic : Logic) (n : ℕ) where
   pub nothing_asked : (old : History) (said : Line) (text : List ℕ) → asks_by said [] ≡ [] → text ≡ line_text (whole_stepper logic) n old.whole said []
       → AllIdle old.whole.entries → AnswersLineBy logic n old said true old text
   nothing_asked old said text none is idle =
-      (([], subst (λ asks. Tries logic old (all_steps (whole_stepper logic) n old.whole asks) old) (sym none) (tries_none logic old), is, idle), λ _. refl)
+      record {
+        answers = ([], subst (λ asks. Tries logic old (all_steps (whole_stepper logic) n old.whole asks) old) (sym none) (tries_none logic old), is, idle);
+        had = λ _. refl;
+      }
 
   -- a step that is no client's to ask
   pub not_asked : (old : History) (s : Step) (text : List ℕ) → is_asked s ≡ false → text ≡ ended (refusal_line NotARequest) → AllIdle old.whole.entries
@@ -93,7 +96,8 @@ module _ (logic : Logic) (n : ℕ) where
   pub asked_line : (old new : History) (s : Step) (done memory : Bool) (text : List ℕ) → is_asked s ≡ true → AnswersBy logic n old s done memory new
       → text ≡ (if done then texts_of (drop (length old.whole.replies) new.whole.replies) else ended not_now_line) → AllIdle new.whole.entries
       → AnswersLineBy logic n old (line.Step s) memory new text
-  asked_line old new s done memory text asked (answers, all) is idle =
+  asked_line old new s done memory text asked by_luck is idle =
+      let answers = by_luck.answers in
       let by = whole_stepper logic in
       let one : Asked = record { step = s; lucks = answers.lucks } in
       let after : new.whole ≡ answered by n old.whole one = answers.tries.whole in
@@ -107,7 +111,7 @@ module _ (logic : Logic) (n : ℕ) where
             ∙ sym (ap (λ b. step_text by n b old.whole s answers.lucks) asked),
         idle,
       )
-      in (answered_line, all)
+      in record { answers = answered_line; had = by_luck.had }
 
 -- ---- what is asked of a silo where all is idle
 
@@ -120,7 +124,7 @@ opening_idle setup g e found =
 module _ (logic : Logic) (n : ℕ) (old new : History) (s : Step) (done : Bool) (leads : LeadsTo logic old.setup old.journal old.whole) (idle : AllIdle old.whole.entries)
     (asked : is_asked s ≡ true) (memory : Bool) (answers_by : AnswersBy logic n old s done memory new) where
   abbrev answers : AnswersAsked logic n old s done new
-  answers = answers_by.0
+  answers = answers_by.answers
 
   abbrev one : Asked
   one = record { step = s; lucks = answers.lucks }

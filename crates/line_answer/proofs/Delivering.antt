@@ -16,7 +16,7 @@ use Rattle.silo_core.specs.History.{History}
 use Rattle.answer_model.specs.Answering.{Luck, Stepper, whole_stepper, bringing, delivering, deliveries, good, given_up_if, all_have_memory, delivered_bytes, oldest_bytes}
 use Rattle.line_answer.specs.Delivering.{Delivers, HasDelivered, IsOldest}
 use Rattle.line_answer.specs.Trying.{Tries, Brings}
-use Rattle.line_answer.specs.declared.bringing.Oldest.{Oldest}
+use Rattle.line_answer.specs.declared.bringing.OldestCall.{OldestCall}
 use Rattle.line_answer.proofs.Trying.{last_has, plain, tries_none, tries_on}
 
 none_by : (sends : List Send) → first_source sends ≡ None → sends ≡ []
@@ -24,7 +24,7 @@ none_by [] is = refl
 none_by (oldest ∷ others) is = absurd (none-some oldest.source (sym is))
 
 module _ (logic : Logic) (old new : History) (tenant : List ℕ) where
-  pub delivered : (found : Oldest) (done memory : Bool) → IsOldest (sends_of (map.get old.whole.accounts tenant)) (Some found)
+  pub delivered : (found : OldestCall) (done memory : Bool) → IsOldest (sends_of (map.get old.whole.accounts tenant)) (Some found)
       → Brings logic old (Deliver found.source) (Some found.target) found.gives_up done memory new → Delivers logic old tenant found.bytes memory new
   delivered found done memory (oldest, others, is, of) brings =
       let by = whole_stepper logic in

@@ -19,7 +19,7 @@ use Rattle.finite_maps.proofs.Lists.{all_append}
 use Rattle.line_parser.specs.declared.line.Line.{Line}
 use Rattle.line_parser.specs.declared.line.Line.TheVariants as line
 use Rattle.line_text.specs.LineTexts.{line_concerns, texts_of, texts_to}
-use Rattle.answer_model.specs.Answering.{Asked, Luck, Stepper, all_answered, answered, answering, bringing, called_grain, deliveries_of, first_luck, is_asked, later_luck, machine_stepper, taken, taken_by, whole_stepper}
+use Rattle.answer_model.specs.Answering.{Asked, Luck, Stepper, all_answered, answered, answering, bringing, called_grain, deliveries_of, first_luck, is_asked, later_luck, machine_stepper, taken, taken_by, whole_stepper, delivered_bytes}
 use Rattle.answer_model.specs.Apart.{asked_by}
 use Rattle.answer_model.proofs.Apart.{asked_done, owner_failed, taken_call, tenants_apart}
 use Rattle.answer_model.proofs.Owned.{AllOwned}
@@ -79,7 +79,7 @@ module _ (logic : Logic) (setup : Setup) (n : ℕ) (tenant : List ℕ) where
         let is = owner_failed luck.asking_failed asked.step ∙ own in
         let steps = bringing of_whole w (taken asked) (called_grain asked.step) luck in
         let next = whole_run logic w steps in
-        let rest = same_deliveries logic setup tenant n next (later_luck asked.lucks) (run_reached logic setup steps w reached) in
+        let rest = same_deliveries logic setup tenant n delivered_bytes next (later_luck asked.lucks) (run_reached logic setup steps w reached) in
         all_append (λ s. owner_of s ≡ Some tenant) steps (deliveries_of of_whole n next (owner_of asked.step) (later_luck asked.lucks))
         (same_bringing logic setup tenant w (taken asked) luck reached is (called_grain asked.step) (call_own asked.step luck is)).1
         (subst (λ o. AllOwned tenant (deliveries_of of_whole n next o (later_luck asked.lucks))) (sym own) rest.1)

@@ -50,7 +50,7 @@ marked : (b : Bool) (s : Bool → Step) → as_failed (s false) ≡ s true → t
 marked true s is = is
 marked false s is = refl
 
-plain : (b : Bool) (s : Step) → as_failed s ≡ s → taken_by b s ≡ s
+pub plain : (b : Bool) (s : Step) → as_failed s ≡ s → taken_by b s ≡ s
 plain b s = marked b (λ _. s)
 
 module _ (logic : Logic) where
@@ -436,10 +436,10 @@ module _ (logic : Logic) (n : ℕ) (old mid new : History) (s : Step) (done memo
       → AnswersBy logic n old s done (memory && had) new
   answers_client caller had is (lucks, tries, all) =
       let answers = answers_by (Some caller.tenant) lucks (owner_by_asker s caller is) tries in
-      (answers.0, λ true_both. ap all_have_memory answers.1 ∙ first_has brings.0 lucks memory had brings.3 all true_both)
+      record { answers = answers.0; had = λ true_both. ap all_have_memory answers.1 ∙ first_has brings.0 lucks memory had brings.3 all true_both }
 
   -- nobody did
   pub answers_nobody : asker_of s ≡ None → is_asked s ≡ true → new ≡ mid → AnswersBy logic n old s done memory new
   answers_nobody none asked same =
       let answers = answers_by None [] (nobodys s none asked) (subst (Tries logic mid []) (sym same) (tries_none logic mid)) in
-      (answers.0, λ is. ap all_have_memory answers.1 ∙ ap (λ b. b && true) (brings.3 is))
+      record { answers = answers.0; had = λ is. ap all_have_memory answers.1 ∙ ap (λ b. b && true) (brings.3 is) }

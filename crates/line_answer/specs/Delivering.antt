@@ -9,16 +9,16 @@ use Rattle.silo_core.specs.History.{History}
 use Rattle.answer_model.specs.Answering.{Luck, all_have_memory, delivered_bytes, deliveries, delivering, has_memory, oldest_bytes}
 use Rattle.answer_model.specs.Answering.{too_many_wait, whole_stepper}
 use Rattle.line_answer.specs.Trying.{Tries}
-use Rattle.line_answer.specs.declared.bringing.Oldest.{Oldest}
+use Rattle.line_answer.specs.declared.bringing.OldestCall.{OldestCall}
 
 -- That is the oldest of these: who sent it to whom, the bytes of its message, and whether its turn is to be given up; or there is none.
-pub record IsOldestOf (oldest : Send) (others : List Send) (found : Oldest) : Type 0 where
+pub record IsOldestOf (oldest : Send) (others : List Send) (found : OldestCall) : Type 0 where
   pub source : oldest.source ≡ found.source
   pub target : oldest.message.target ≡ found.target
   pub bytes : message_bytes oldest ≡ found.bytes
   pub gives_up : too_many_wait (oldest ∷ others) ≡ found.gives_up
 
-abbrev pub IsOldest : List Send → Option Oldest → Type 0
+abbrev pub IsOldest : List Send → Option OldestCall → Type 0
 IsOldest sends None = sends ≡ []
 IsOldest sends (Some found) = (oldest : Send) × (others : List Send) × (sends ≡ oldest ∷ others) × IsOldestOf oldest others found
 

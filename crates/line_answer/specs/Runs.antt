@@ -35,9 +35,9 @@ AnswersLine logic n old said new text =
     × (text ≡ line_text (whole_stepper logic) n old.whole said lucks) × AllIdle new.whole.entries
 
 -- The same; and there was memory, if so it says, to close the turns that came of it.
-abbrev pub AnswersLineBy : Logic → ℕ → History → Line → Bool → History → List ℕ → Type 0
-AnswersLineBy logic n old said memory new text =
-    (answers : AnswersLine logic n old said new text) × (memory ≡ true → all_have_memory answers.0 ≡ true)
+pub record AnswersLineBy (logic : Logic) (n : ℕ) (old : History) (said : Line) (memory : Bool) (new : History) (text : List ℕ) : Type 0 where
+  pub answers : AnswersLine logic n old said new text
+  pub had : memory ≡ true → all_have_memory answers.0 ≡ true
 
 -- So it was for these lines. Each tenant is shown what its own machine is after what the tenant and nobody asked alone; and the texts
 -- of the lines that concern it are what that machine writes for these lines alone, with the same luck.

@@ -91,6 +91,6 @@ pub record AnswersAsked (logic : Logic) (n : ℕ) (old : History) (s : Step) (do
   pub possible : is_possible logic old.whole (taken (record { step = s; lucks = lucks })) ≡ done
 
 -- The same; and there was memory, if so it says, to close the turns that came of it.
-abbrev pub AnswersBy : Logic → ℕ → History → Step → Bool → Bool → History → Type 0
-AnswersBy logic n old s done memory new =
-    (answers : AnswersAsked logic n old s done new) × (memory ≡ true → all_have_memory answers.lucks ≡ true)
+pub record AnswersBy (logic : Logic) (n : ℕ) (old : History) (s : Step) (done memory : Bool) (new : History) : Type 0 where
+  pub answers : AnswersAsked logic n old s done new
+  pub had : memory ≡ true → all_have_memory answers.lucks ≡ true

@@ -90,7 +90,7 @@ fn is_same(before: usize, after: usize) -> bool
 /// The oldest of what a tenant's grains sent: who sent it to whom, how many bytes its message has, and whether its turn is to be
 /// abandoned.
 #[derive(Drop)]
-struct Oldest {
+struct OldestCall {
     source: GrainId,
     target: GrainId,
     bytes: u64,
@@ -112,13 +112,13 @@ fn too_many_wait<S: GrainStorage, L: GrainLogic>(silo: &Silo<S, L>, tenant: &str
 fn oldest<S: GrainStorage, L: GrainLogic>(
     silo: &Silo<S, L>,
     tenant: &str,
-) -> Result<Option<Oldest>, AllocError>
+) -> Result<Option<OldestCall>, AllocError>
     ensures { IfOk result (λ found. IsOldest (sends_of (map.get silo.now.whole.accounts tenant.now)) found) }
 {
     let Some(sent) = silo.oldest_sent(tenant) else {
         return Ok(None);
     };
-    Ok(Some(Oldest {
+    Ok(Some(OldestCall {
         source: sent.source.clone()?,
         target: sent.target.clone()?,
         bytes: sent.message.bytes().len() as u64,
@@ -136,12 +136,12 @@ fn deliver_found<S: GrainStorage, L: GrainLogic>(
     bump: &mut Bump,
     silo: &mut Silo<S, L>,
     tenant: &str,
-    found: Oldest,
+    found: OldestCall,
 ) -> Result<bool, AllocError>
     requires { IsOldest (sends_of (map.get silo.old.whole.accounts tenant.now)) (Some found) }
     ensures { IfOk result (λ memory. Delivers L.logic silo.old tenant.now found.bytes memory silo.new) }
 {
-    let Oldest {
+    let OldestCall {
         source,
         target,
         gives_up,

@@ -47,13 +47,14 @@ module _ (logic : Logic) (n : ℕ) where
   pub leads_well : (old new : History) (line text : List ℕ) → LeadsTo logic old.setup old.journal old.whole → AllIdle old.whole.entries
       → AnswersLineBy logic n old (meaning_of line) true new text → list_all is_stored (drop (length old.journal) new.journal) ≡ true
       → LeadsLines logic n old (line ∷ []) new text
-  leads_well old new line text leads idle (answers, memory) stored =
+  leads_well old new line text leads idle answered stored =
+      let answers = answered.answers in
       let by = whole_stepper logic in
       let said = meaning_of line in
       let asks = asks_by said answers.0 in
       let all : AllStored (done_by (whole_step logic) old.whole (all_steps by n old.whole asks)) =
       subst AllStored (steps_since old.journal new.journal _ answers.1.journal) (all_by _ stored) in
-      let same = line_surely logic old.setup n old.whole said answers.0 (old.journal, leads) idle (memory refl) all in
+      let same = line_surely logic old.setup n old.whole said answers.0 (old.journal, leads) idle (answered.had refl) all in
       record {
         setup = answers.1.setup;
         whole = answers.1.whole ∙ run_all by n old.whole asks ∙ same.0 ∙ ap (all_answered by n old.whole) (sym (append-nil (asks_by said [])));

@@ -9,7 +9,8 @@ returns-in_default g c =
     let old = c.args.silo.now in
     let mid = c.take.new.silo in
     let done = c.in_ok-done.done in
-    subst (λ o. Brings logic old c.args.step o done mid) (sym c.in_default.is) (brought_none logic old mid c.args.step done c.in_ok-done.ensures.taken)
+    subst (λ o. Brings logic old c.args.step o c.args.gives_up done true mid) (sym c.in_default.is)
+    (brought_none logic old mid c.args.step c.args.gives_up done c.in_ok-done.ensures.taken)
 
 pub returns-then-is_same : goal.returns-then-is_same
 returns-then-is_same g c =
@@ -19,8 +20,8 @@ returns-then-is_same g c =
     let done = c.in_ok-done.done in
     let same : (length mid.whole.replies == length old.whole.replies) ≡ true
     = (λ i. sym c.told-after.ensures i == sym c.told-before.ensures i) ∙ sym c.is_same.ensures ∙ c.if-is_same.true in
-    subst (λ o. Brings logic old c.args.step o done c.serve.new.silo) (sym c.in-Some.is)
-    (brought logic old mid c.args.step done c.in_ok-done.ensures.taken c.in-Some.grain c.serve.new.silo same c.in_ok-serve.ensures)
+    subst (λ o. Brings logic old c.args.step o c.args.gives_up done c.in_ok-memory.memory c.serve.new.silo) (sym c.in-Some.is)
+    (brought logic old mid c.args.step c.args.gives_up done c.in_ok-done.ensures.taken c.in-Some.grain c.serve.new.silo c.in_ok-memory.memory same c.in_ok-memory.ensures)
 
 pub returns : goal.returns
 returns g c =
@@ -30,5 +31,5 @@ returns g c =
     let done = c.in_ok-done.done in
     let other : (length mid.whole.replies == length old.whole.replies) ≡ false
     = (λ i. sym c.told-after.ensures i == sym c.told-before.ensures i) ∙ sym c.is_same.ensures ∙ c.if-is_same.false in
-    subst (λ o. Brings logic old c.args.step o done mid) (sym c.in-Some.is)
-    (brought_refused logic old mid c.args.step done c.in_ok-done.ensures.taken c.in-Some.grain other)
+    subst (λ o. Brings logic old c.args.step o c.args.gives_up done true mid) (sym c.in-Some.is)
+    (brought_refused logic old mid c.args.step c.args.gives_up done c.in_ok-done.ensures.taken c.in-Some.grain other)

@@ -1,13 +1,12 @@
-use Rattle.std.proofs.Common.{List, ap, sym, ◌∙◌, subst}
+use Rattle.std.proofs.Common.{ap, sym, ◌∙◌, subst}
 use Rattle.std.specs.Option.{option_copied}
 use Rattle.std.specs.FinMap as map
 use Rattle.std.proofs.lemmas.Option.{none-some, same_Some}
-use Rattle.std.proofs.lemmas.Result.{on_ok_weaker}
+use Rattle.std.proofs.lemmas.Result.{IfOk-weaker}
 use Rattle.silo_model.specs.Pending.{sends_of}
 use Rattle.tenant_accounts.specs.Sends.{first_source}
-use Rattle.answer_model.specs.Answering.{Luck, deliveries, whole_stepper}
-use Rattle.line_answer.specs.Trying.{Tries}
-use Rattle.line_answer.proofs.Trying.{goes_nowhere}
+use Rattle.line_answer.specs.Delivering.{HasDelivered}
+use Rattle.line_answer.proofs.Delivering.{goes_nowhere}
 use Rattle.line_answer.proofs.bringing.deliver_behind.Goals as goal
 
 pub returns-in_default : goal.returns-in_default
@@ -26,8 +25,8 @@ pub returns : goal.returns
 returns g c =
     let logic = g.L.GrainLogic.logic in
     let old = c.args.silo.now in
-    on_ok_weaker c.deliver-delivered.result (λ delivered call caller ends asks.
+    IfOk-weaker c.deliver-delivered.result _ _ (λ memory delivered call caller ends asks.
     let found = same_Some _ caller (ap option_copied (sym c.in-Some.is) ∙ c.last_caller.ensures call ends ∙ asks) in
     let tenant = c.tenant-2.ensures ∙ ap (λ x. x.tenant) (c.in_ok-caller.ensures.cases ∙ found) in
-    subst (λ t. (lucks : List Luck) × Tries logic old (deliveries (whole_stepper logic) c.args.most old.whole t lucks) c.deliver-delivered.new.silo) tenant delivered)
+    subst (λ t. HasDelivered logic c.args.most t old memory c.deliver-delivered.new.silo) tenant delivered)
     c.deliver-delivered.ensures

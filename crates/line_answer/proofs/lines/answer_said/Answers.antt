@@ -1,6 +1,6 @@
 use Rattle.std.proofs.Common.{rules, ◌≡◌, ◌∙◌, ◌++◌, length, drop, string_bytes, ap, sym}
 use Rattle.line_text.specs.LineTexts.{ended, texts_of}
-use Rattle.line_text.specs.Text.{refusal_line}
+use Rattle.line_text.specs.Text.{not_now_line, refusal_line}
 use Rattle.line_parser.specs.declared.line.LineRefusal.TheVariants.{NotARequest}
 use Rattle.line_answer.proofs.Asked.{asked_line, not_asked}
 use Rattle.line_answer.proofs.lines.answer_said.Goals as goal
@@ -11,8 +11,8 @@ returns-then-not-is_asked-clause-ok g c =
     not_asked g.L.GrainLogic.logic c.args.most c.args.silo.now.history c.args.step (string_bytes c.refuse.new.text)
     (sym c.is_asked.ensures ∙ c.if-not-is_asked.true) is (c.journal.ensures.idle c.requires)
 
-pub returns-then-branch-clause-ok : goal.returns-then-branch-clause-ok
-returns-then-branch-clause-ok g c =
+pub returns-then-taken-clause-ok : goal.returns-then-taken-clause-ok
+returns-then-taken-clause-ok g c =
     let old = c.args.silo.now.history in
     let new = c.answer_in.new.self.history in
     let before = c.replies-before.result.now in
@@ -21,5 +21,13 @@ returns-then-branch-clause-ok g c =
     = c.in_ok-push_new.ensures
     ∙ ap (λ front. front ++ texts_of (drop (length before) after)) c.clear.ensures.bytes
     ∙ (λ i. texts_of (drop (length (c.replies-before.ensures i)) (c.replies.ensures i))) in
-    asked_line g.L.GrainLogic.logic c.args.most old new c.args.step _ (string_bytes c.push_new.new.text)
-    (sym c.is_asked.ensures ∙ c.if-not-is_asked.false) (rw c.if-branch.true at c.in_ok-answer_in.ensures.answered) is c.in_ok-answer_in.ensures.idle
+    asked_line g.L.GrainLogic.logic c.args.most old new c.args.step _ _ (string_bytes c.push_new.new.text)
+    (sym c.is_asked.ensures ∙ c.if-not-is_asked.false) (rw c.if-taken.true at c.in_ok-taken.ensures.answered) is c.in_ok-taken.ensures.idle
+
+pub returns-clause-ok : goal.returns-clause-ok
+returns-clause-ok g c =
+    let old = c.args.silo.now.history in
+    let new = c.answer_in.new.self.history in
+    let is : string_bytes c.push_str.new.self ≡ ended not_now_line = search rules in
+    asked_line g.L.GrainLogic.logic c.args.most old new c.args.step _ _ (string_bytes c.push_str.new.self)
+    (sym c.is_asked.ensures ∙ c.if-not-is_asked.false) (rw c.if-taken.false at c.in_ok-taken.ensures.answered) is c.in_ok-taken.ensures.idle
