@@ -51,7 +51,7 @@ pub enum Method {
     Clear,
     Rest,
     Stay,
-    Other(#[allow(dead_code)] Box<str>),
+    Other(Box<str>),
 }
 
 impl Method {
@@ -71,6 +71,17 @@ impl Method {
             "rest" => Method::Rest,
             "stay" => Method::Stay,
             other => Method::Other(other.into()),
+        }
+    }
+
+    /// How many bytes its name has.
+    pub fn length(&self) -> usize {
+        match self {
+            Method::Add | Method::Get | Method::Put => 3,
+            Method::Drop | Method::List | Method::Join | Method::Send | Method::Save | Method::Rest | Method::Stay => 4,
+            Method::Leave | Method::Clear => 5,
+            Method::Reload => 6,
+            Method::Other(name) => name.len(),
         }
     }
 

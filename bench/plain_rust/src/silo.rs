@@ -10,6 +10,10 @@ use std::cmp::Reverse;
 use std::collections::{BTreeMap, BinaryHeap, HashMap, VecDeque};
 use std::sync::Arc;
 
+/// While more of a tenant's sends wait, or their messages have more bytes, the turn of each that is delivered is given up.
+const WAITING_CALLS: usize = 10_000;
+const WAITING_BYTES: usize = 1_048_576;
+
 #[derive(Clone, Copy)]
 pub struct Limits {
     pub activations: u32,
@@ -33,6 +37,8 @@ pub struct Tenant {
     entries: u32,
     /// The grains that sent something that isn't delivered, by when they sent it.
     sources: BTreeMap<u64, u32>,
+    /// How many bytes their messages have.
+    waiting: usize,
 }
 
 pub struct Grain {
@@ -54,6 +60,15 @@ struct Send {
     target: u32,
     method: Method,
     args: Arc<Value>,
+    /// How many bytes its message has.
+    length: usize,
+}
+
+/// What is delivered next.
+pub struct Oldest {
+    pub source: u32,
+    pub target: u32,
+    pub length: usize,
 }
 
 struct Request {
@@ -125,7 +140,7 @@ impl Silo {
     pub fn new(setup: &Setup) -> Silo {
         let mut tenants = Table::new();
         for (name, limits) in &setup.tenants {
-            tenants.add(name, Tenant { limits: Some(*limits), requests: 0, entries: 0, sources: BTreeMap::new() });
+            tenants.add(name, Tenant { limits: Some(*limits), requests: 0, entries: 0, sources: BTreeMap::new(), waiting: 0 });
         }
         Silo {
             callers: Table::new(),
@@ -147,7 +162,7 @@ impl Silo {
     fn place_of_tenant(&mut self, name: &str) -> u32 {
         let found = self.tenants.find(name);
         found.unwrap_or_else(|| {
-            self.tenants.add(name, Tenant { limits: None, requests: 0, entries: 0, sources: BTreeMap::new() })
+            self.tenants.add(name, Tenant { limits: None, requests: 0, entries: 0, sources: BTreeMap::new(), waiting: 0 })
         })
     }
 
@@ -327,15 +342,24 @@ impl Silo {
         let found = self.grains.at_mut(source);
         let Some(send) = found.sends.pop_front() else { return false };
         let tenant = found.tenant;
-        self.tenants.at_mut(tenant).sources.remove(&send.moment);
+        let owner = self.tenants.at_mut(tenant);
+        owner.sources.remove(&send.moment);
+        owner.waiting -= send.length;
         self.request(tenant, To::Grain(source), send.target, send.method, send.args);
         true
     }
 
-    /// The grain that sent what is the oldest of a tenant's sends, and to whom.
-    pub fn oldest_send(&self, tenant: u32) -> Option<(u32, u32)> {
+    /// The oldest of a tenant's sends.
+    pub fn oldest_send(&self, tenant: u32) -> Option<Oldest> {
         let (_, source) = self.tenants.at(tenant).sources.first_key_value()?;
-        Some((*source, self.grains.at(*source).sends.front()?.target))
+        let send = self.grains.at(*source).sends.front()?;
+        Some(Oldest { source: *source, target: send.target, length: send.length })
+    }
+
+    /// Whether more of a tenant's sends wait than may.
+    pub fn too_many_wait(&self, tenant: u32) -> bool {
+        let found = self.tenants.at(tenant);
+        found.sources.len() > WAITING_CALLS || found.waiting > WAITING_BYTES
     }
 
     fn activate(&mut self, grain: u32) -> bool {
@@ -417,12 +441,15 @@ impl Silo {
 
     fn send(&mut self, tenant: u32, source: u32, sent: Sent) {
         let args = Arc::new(sent.args);
+        let length = message_length(&sent.method, &args);
         for member in sent.members {
             let target = self.place_of_grain(&member);
             self.sent += 1;
-            let send = Send { moment: self.sent, target, method: sent.method.clone(), args: args.clone() };
+            let send = Send { moment: self.sent, target, method: sent.method.clone(), args: args.clone(), length };
             self.grains.at_mut(source).sends.push_back(send);
-            self.tenants.at_mut(tenant).sources.insert(self.sent, source);
+            let owner = self.tenants.at_mut(tenant);
+            owner.sources.insert(self.sent, source);
+            owner.waiting += length;
         }
     }
 
@@ -533,6 +560,11 @@ impl Silo {
             }
         }
     }
+}
+
+/// How many bytes spell it: its form, the method as a text, and the argument.
+fn message_length(method: &Method, args: &Value) -> usize {
+    5 + method.length() + args.length()
 }
 
 fn version_value(version: Option<u64>) -> Value {
