@@ -35,7 +35,8 @@ AnswersLine logic n old said new text =
     × (text ≡ line_text (whole_stepper logic) n old.whole said lucks) × AllIdle new.whole.entries
 
 -- The same; and there was memory, if so it says, to close the turns that came of it.
-pub record AnswersLineBy (logic : Logic) (n : ℕ) (old : History) (said : Line) (memory : Bool) (new : History) (text : List ℕ) : Type 0 where
+pub record AnswersLineBy (logic : Logic) (n : ℕ) (old : History) (said : Line) (memory : Bool) (new : History)
+    (text : List ℕ) : Type 0 where
   pub answers : AnswersLine logic n old said new text
   pub had : memory ≡ true → all_have_memory answers.0 ≡ true
 
