@@ -1,5 +1,5 @@
 -- The journal of lines that were answered at once has what the lines ask, under numbers below 2^63.
-use Rattle.std.proofs.Common.{ℕ, zero, suc, Bool, true, false, List, [], ◌∷◌, Option, Some, None, unwrap_or, if◌then◌else◌, sym, subst}
+use Rattle.std.proofs.Common.{ℕ, zero, suc, ◌-◌, Bool, true, false, List, [], ◌∷◌, Option, Some, None, unwrap_or, if◌then◌else◌, sym, subst}
 use Rattle.std.specs.Prelude.{map as map_list}
 use Rattle.std.specs.List.{AllByRecursion}
 use Rattle.std.proofs.lemmas.List.Elements.{All-from_recursion}
@@ -16,7 +16,7 @@ use Rattle.silo_event.specs.Owner.{owner_of}
 use Rattle.line_parser.specs.declared.line.Line.{Line}
 use Rattle.line_parser.specs.declared.line.Line.TheVariants as line
 use Rattle.line_text.specs.LineTexts.{said_lines}
-use Rattle.answer_model.specs.Answering.{Asked, Closing, Luck, Stepper, answered, answering, bringing, called_grain, can, closing, deliveries, deliveries_of, delivering, ending, first_luck, is_accepted, is_asked, later_luck, out_of_memory, raising, run, serving, serving_if, storage_failed, taken, taken_by, turn_of, turn_of_first, turning, well, whole_stepper}
+use Rattle.answer_model.specs.Answering.{Asked, Closing, Luck, Stepper, answered, answering, bringing, called_grain, can, closing, delivered_bytes, deliveries, deliveries_of, delivering, ending, first_luck, given_up_if, is_accepted, is_asked, later_luck, oldest_bytes, out_of_memory, raising, run, serving, serving_if, storage_failed, taken, taken_by, too_many_wait, turn_of, turn_of_first, turning, well, whole_stepper}
 use Rattle.line_answer.specs.Texts.{Heard, all_steps, asked_if, asks_by, asks_of}
 use Rattle.journal_text.specs.Rules.{AsksInRange}
 use Rattle.command_parts.proofs.AskedNumbers.{SaysInRange, meaning_in_range}
@@ -75,19 +75,22 @@ module _ {M : Type 0} (by : Stepper M) where
 
   delivering_fits : (m : M) (sends : List Send) (luck : Luck) → Fit (delivering by m sends luck)
   delivering_fits m [] luck = tt
-  delivering_fits m (oldest ∷ others) luck = bringing_fits m (Deliver oldest.source) (Some oldest.message.target) luck tt
+  delivering_fits m (oldest ∷ others) luck =
+      bringing_fits m (Deliver oldest.source) (Some oldest.message.target) (given_up_if (too_many_wait (oldest ∷ others)) luck) tt
 
-  deliveries_fit : (n : ℕ) (m : M) (tenant : List ℕ) (lucks : List Luck) → Fit (deliveries by n m tenant lucks)
-  deliveries_fit zero m tenant lucks = tt
-  deliveries_fit (suc n) m tenant lucks =
+  deliveries_fit : (n room : ℕ) (m : M) (tenant : List ℕ) (lucks : List Luck) → Fit (deliveries by n room m tenant lucks)
+  deliveries_fit zero room m tenant lucks = tt
+  deliveries_fit (suc n) zero m tenant lucks = tt
+  deliveries_fit (suc n) (suc room) m tenant lucks =
       let sends = sends_of (by.account m tenant) in
       let steps = delivering by m sends (first_luck lucks) in
-      all_append AsksInRange steps (deliveries by n (run by m steps) tenant (later_luck lucks)) (delivering_fits m sends (first_luck lucks))
-      (deliveries_fit n (run by m steps) tenant (later_luck lucks))
+      let left = suc room - oldest_bytes sends in
+      all_append AsksInRange steps (deliveries by n left (run by m steps) tenant (later_luck lucks)) (delivering_fits m sends (first_luck lucks))
+      (deliveries_fit n left (run by m steps) tenant (later_luck lucks))
 
   behind_fits : (n : ℕ) (m : M) (o : Option (List ℕ)) (lucks : List Luck) → Fit (deliveries_of by n m o lucks)
   behind_fits n m None lucks = tt
-  behind_fits n m (Some owner) lucks = deliveries_fit n m owner lucks
+  behind_fits n m (Some owner) lucks = deliveries_fit n delivered_bytes m owner lucks
 
   -- ---- all that is asked
 
