@@ -2,6 +2,7 @@
 
 ghost use Rattle.std.specs.Prelude.{◌≡◌, ◌≢◌, ◌↔◌, ◌⊎◌, ⊤, ℕ, List, [], IfOk, IfErr, None, OnOk, OnErr, IsErrOf, string_bytes, true};
 
+use host_writing::WritableText;
 use line_text::Output;
 use log_host::{HostFault, LogFiles, LogHost, MemoryLog, OpenFault};
 use std::alloc::Global;
@@ -45,9 +46,14 @@ pub trait WholeFiles {
         ensures held { IfOk result (λ bytes. may_hold self.now path.now bytes.items) }
         ensures fault { IfErr result (λ why. why ≢ FileFault.Memory → may_fail self.now path.now) };
 
-    fn write_whole(&mut self, alloc: Global, path: &str, bytes: &[u8]) -> Result<(), FileFault>
-        ensures held { OnOk result (may_hold self.new path.now bytes.now) }
-        ensures left { may_leave self.old path.now bytes.now self.new }
+    fn write_whole<T: WritableText>(
+        &mut self,
+        alloc: Global,
+        path: &str,
+        text: &T,
+    ) -> Result<(), FileFault>
+        ensures held { OnOk result (may_hold self.new path.now (T.bytes text.now)) }
+        ensures left { may_leave self.old path.now (T.bytes text.now) self.new }
         ensures fault { IfErr result (λ why. why ≢ FileFault.Memory → may_fail self.old path.now) };
 }
 
@@ -94,19 +100,26 @@ impl WholeFiles for MemoryFile {
         Vec::from_slice(alloc, &self.bytes).map_err(|_| FileFault::Memory)
     }
 
-    fn write_whole(&mut self, alloc: Global, path: &str, bytes: &[u8]) -> Result<(), FileFault>
-        ensures written { OnOk result ((path.now ≡ string_bytes self.new.path) × (bytes.now ≡ self.new.bytes.items)) }
+    fn write_whole<T: WritableText>(
+        &mut self,
+        alloc: Global,
+        path: &str,
+        text: &T,
+    ) -> Result<(), FileFault>
+        ensures written { OnOk result ((path.now ≡ string_bytes self.new.path) × (T.bytes text.now ≡ self.new.bytes.items)) }
         ensures failed { IsErrOf result FileFault.Failed ↔ (path.now ≢ string_bytes self.old.path) }
         ensures left { (self.new ≡ self.old)
-            ⊎ ((path.now ≡ string_bytes self.old.path) × (self.new.path ≡ self.old.path) × (bytes.now ≡ self.new.bytes.items)) }
+            ⊎ ((path.now ≡ string_bytes self.old.path) × (self.new.path ≡ self.old.path)
+            × (T.bytes text.now ≡ self.new.bytes.items)) }
         ensures refused { OnErr result (self.new ≡ self.old) }
         ensures fault { IfErr result (λ why. why ≢ FileFault.Memory → path.now ≢ string_bytes self.old.path) }
     {
         if path != self.path.as_str() {
             return Err(FileFault::Failed);
         }
-        match Vec::from_slice(alloc, bytes) {
-            Ok(written) => {
+        let mut written = Vec::new(alloc);
+        match text.write_to(alloc, &mut written) {
+            Ok(()) => {
                 self.bytes = written;
                 Ok(())
             }

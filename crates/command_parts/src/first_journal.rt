@@ -49,7 +49,7 @@ pub fn keep_first<F: WholeFiles, L: GrainLogic>(
     let Ok(text) = empty_text(alloc, start) else {
         return Err(Cause::Memory);
     };
-    match files.write_whole(alloc, path, text.as_slice()) {
+    match files.write_whole(alloc, path, &text) {
         Ok(()) => Ok(()),
         Err(FileFault::Memory) => Err(Cause::Memory),
         Err(FileFault::Failed | FileFault::TooMuch) => Err(Cause::Write),

@@ -5,7 +5,7 @@ ghost use Rattle.std.specs.Prelude.{◌≡◌, None};
 use crate::counted_reader::{CountedReader, read_to_end};
 use crate::files::{FileFault, WholeFiles, fault_of};
 use crate::host_logs::HostData;
-use host_writing::TriedPath;
+use host_writing::{TriedPath, WritableText};
 use std::alloc::Global;
 use std::fs::File;
 use std::random::RandomSource;
@@ -42,13 +42,18 @@ impl<R: Files<File = File> + AllocGlobal + RandomSource> WholeFiles for HostFile
         }
     }
 
-    fn write_whole(&mut self, alloc: Global, path: &str, bytes: &[u8]) -> Result<(), FileFault> {
+    fn write_whole<T: WritableText>(
+        &mut self,
+        alloc: Global,
+        path: &str,
+        text: &T,
+    ) -> Result<(), FileFault> {
         if let Some(tried) = &mut self.tried {
             if tried.is_at(path) {
-                return tried.write(self.rt, alloc, bytes).map_err(fault_of);
+                return tried.write(self.rt, alloc, text).map_err(fault_of);
             }
         }
-        match TriedPath::of(self.rt, alloc, path, bytes) {
+        match TriedPath::of(self.rt, alloc, path, text) {
             Ok(tried) => {
                 self.tried = Some(tried);
                 Ok(())

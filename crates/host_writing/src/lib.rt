@@ -8,12 +8,15 @@
 #![tactic(auto)]
 
 mod beside;
+mod counted_writer;
 mod limit;
 mod limited_writer;
 mod links;
 mod placing;
 mod tried;
+mod writable;
 
 pub use limit::size_limit;
 pub use limited_writer::LimitedWriter;
 pub use tried::TriedPath;
+pub use writable::WritableText;

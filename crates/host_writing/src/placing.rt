@@ -2,7 +2,10 @@
 
 ghost use Rattle.std.specs.Prelude.{◌≡◌, ◌+◌, ◌*◌, bit_and, if◌then◌else◌};
 
+use crate::counted_writer::write_within;
 use crate::limit::{length_of, size_limit};
+use crate::writable::WritableText;
+use std::alloc::Global;
 use std::fs::{File, Metadata, OpenFile, OpenOptions, Permissions};
 use std::io::{ErrorKind, Write};
 use std::os::unix::fs::{MetadataExt, OpenOptionsExt, PermissionsExt};
@@ -12,19 +15,19 @@ use std::{fs, io};
 /// Who may read and write a new file: its owner.
 const NEW_MODE: u32 = 0o600;
 
-/// Fails where the bytes don't fit into a file.
-fn check_size(files: &impl Files, bytes: &[u8]) -> io::Result<()> {
+/// How many bytes a file may have.
+fn most_bytes(files: &impl Files) -> u64 {
     match size_limit(files) {
-        Some(limit) if bytes.len() as u64 > limit => Err(io::Error::from(ErrorKind::FileTooLarge)),
-        _ => Ok(()),
+        Some(limit) => limit,
+        None => u64::MAX,
     }
 }
 
 /// Fails where the file hasn't the length that was written. Closing a file reports no error; if it lost something, that
 /// shows here.
-fn check_length(files: &impl Files, path: &str, bytes: &[u8]) -> io::Result<()> {
+fn check_length(files: &impl Files, path: &str, written: u64) -> io::Result<()> {
     match length_of(files, path) {
-        Some(length) if length == bytes.len() as u64 => Ok(()),
+        Some(length) if length == written => Ok(()),
         _ => Err(io::Error::from(ErrorKind::Other)),
     }
 }
@@ -49,13 +52,16 @@ fn make_file<R: Files>(files: &R, path: &str) -> io::Result<R::File> {
     options.open(files, path)
 }
 
-/// Writes a new file, gives it the rights of the older one, if there is one, waits until it is on the disk, and closes it.
-fn fill_file<F: OpenFile + Write + Drop>(
+/// Writes a new file, which may have so many bytes, gives it the rights of the older one, if there is one, waits until it is on the
+/// disk, and closes it. Answers how many bytes it got.
+fn fill_file<F: OpenFile + Write + Drop, T: WritableText>(
+    alloc: Global,
     mut file: F,
+    most: u64,
     older: Option<&Metadata>,
-    bytes: &[u8],
-) -> io::Result<()> {
-    file.write_all(bytes)?;
+    text: &T,
+) -> io::Result<u64> {
+    let written = write_within(alloc, &mut file, most, text)?;
     if let Some(older) = older {
         let made = OpenFile::metadata(&file)?;
         let mode = mode_kept(older.mode(), made.gid() == older.gid());
@@ -63,20 +69,24 @@ fn fill_file<F: OpenFile + Write + Drop>(
             OpenFile::set_permissions(&file, Permissions::from_mode(mode))?;
         }
     }
-    OpenFile::sync_all(&file)
+    OpenFile::sync_all(&file)?;
+    Ok(written)
 }
 
 /// Has a new file at this path, on the disk and closed, or none.
-fn make_beside(
+fn make_beside<T: WritableText>(
     files: &impl Files,
+    alloc: Global,
     beside: &str,
     older: Option<&Metadata>,
-    bytes: &[u8],
+    text: &T,
 ) -> io::Result<()> {
-    let mut made = fill_file(make_file(files, beside)?, older, bytes);
-    if made.is_ok() {
-        made = check_length(files, beside, bytes);
-    }
+    let most = most_bytes(files);
+    let filled = fill_file(alloc, make_file(files, beside)?, most, older, text);
+    let made = match filled {
+        Ok(written) => check_length(files, beside, written),
+        Err(error) => Err(error),
+    };
     if made.is_err() {
         drop(fs::remove_file(files, beside));
     }
@@ -102,12 +112,17 @@ pub fn older_at(files: &impl Files, path: &str) -> io::Result<Option<Metadata>> 
 ///
 /// # Errors
 ///
-/// A call failed, or the new file has another length once it is closed, or a file may not be as long. What was at the path stands as it was
-/// then, and the new file was taken away again.
-pub fn replace_file(files: &impl Files, path: &str, beside: &str, bytes: &[u8]) -> io::Result<()> {
+/// A call failed, or memory was refused, or the new file has another length once it is closed, or a file may not be as long. What was at
+/// the path stands as it was then, and the new file was taken away again.
+pub fn replace_file<T: WritableText>(
+    files: &impl Files,
+    alloc: Global,
+    path: &str,
+    beside: &str,
+    text: &T,
+) -> io::Result<()> {
     let older = older_at(files, path)?;
-    check_size(files, bytes)?;
-    make_beside(files, beside, older.as_ref(), bytes)?;
+    make_beside(files, alloc, beside, older.as_ref(), text)?;
     let placed = fs::rename(files, beside, path);
     if placed.is_err() {
         drop(fs::remove_file(files, beside));
@@ -120,9 +135,13 @@ pub fn replace_file(files: &impl Files, path: &str, beside: &str, bytes: &[u8]) 
 /// # Errors
 ///
 /// As of `replace_file`; or it wasn't taken away.
-pub fn try_file(files: &impl Files, beside: &str, bytes: &[u8]) -> io::Result<()> {
-    check_size(files, bytes)?;
-    make_beside(files, beside, None, bytes)?;
+pub fn try_file<T: WritableText>(
+    files: &impl Files,
+    alloc: Global,
+    beside: &str,
+    text: &T,
+) -> io::Result<()> {
+    make_beside(files, alloc, beside, None, text)?;
     fs::remove_file(files, beside)
 }
 
@@ -135,17 +154,29 @@ pub fn open_stream<R: Files>(files: &R, path: &str) -> io::Result<R::File> {
     OpenOptions::new().append(true).open(files, path)
 }
 
-/// Writes all of the bytes.
+/// How many bytes may still be written to what is open.
+fn room_of<R: Files>(files: &R, stream: &R::File) -> io::Result<u64> {
+    let found = OpenFile::metadata(stream)?;
+    let most = most_bytes(files);
+    if found.is_file() {
+        Ok(most.saturating_sub(found.len()))
+    } else {
+        Ok(u64::MAX)
+    }
+}
+
+/// Writes all of the text.
 ///
 /// # Errors
 ///
-/// A call failed, and then a part of them may have gone out; or it is a file that may not be as long, and then nothing was written.
-pub fn write_stream<R: Files>(files: &R, stream: &mut R::File, bytes: &[u8]) -> io::Result<()> {
-    let found = OpenFile::metadata(stream)?;
-    if let (true, Some(limit)) = (found.is_file(), size_limit(files)) {
-        if limit.saturating_sub(found.len()) < bytes.len() as u64 {
-            return Err(io::Error::from(ErrorKind::FileTooLarge));
-        }
-    }
-    stream.write_all(bytes)
+/// A call failed, or memory was refused, or it is a file that may not be as long. Then a part of the text may have gone out.
+pub fn write_stream<R: Files, T: WritableText>(
+    files: &R,
+    alloc: Global,
+    stream: &mut R::File,
+    text: &T,
+) -> io::Result<()> {
+    let room = room_of(files, stream)?;
+    write_within(alloc, stream, room, text)?;
+    Ok(())
 }

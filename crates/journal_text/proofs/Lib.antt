@@ -1,6 +1,7 @@
 pub mod Common
 pub mod Forms
 pub mod Lines
+pub mod Written
 pub mod Numbers
 pub mod Words
 pub mod Cuts

@@ -195,7 +195,7 @@ fn see_rows(rows: &[(GrainId, Row)])
 }
 
 /// The journal of these parts keeps the rules, if what no type keeps of them is in range.
-pub(crate) fn see_parts(parts: JournalParts<'_>)
+pub fn see_parts(parts: JournalParts<'_>)
     ensures { IsInRange (history_of parts.entry.kinds parts.entry.age parts.entry.ages.now parts.entry.tenants.now
         parts.entry.steps.now (map recorded_of parts.entry.replies.now) parts.entry.rows.now)
         → KeepsRules (history_of parts.entry.kinds parts.entry.age parts.entry.ages.now parts.entry.tenants.now

@@ -20,6 +20,7 @@ mod line;
 mod line_reader;
 mod line_writer;
 mod migration;
+mod pieces;
 mod recorded;
 mod step_reader;
 
@@ -27,6 +28,7 @@ pub use fault::{JournalFault, LineFault};
 pub use form::Form;
 pub use journal::Journal;
 pub use journal_reader::{named_kinds, read_journal};
-pub use journal_writer::{JournalParts, journal_of_parts};
+pub use journal_writer::{JournalParts, journal_of_parts, write_parts};
+pub use kept::see_parts;
 pub use migration::migrate_journal;
 pub use recorded::{RecordedFault, RecordedReply};

@@ -4,7 +4,7 @@ ghost use Rattle.std.specs.Prelude.{[], None, true};
 
 use crate::runs::left_by;
 use log_host::{HostFault, LogFiles, LogHost, OpenFault};
-use silo_program::{DataFiles, FileFault, Output, WholeFiles};
+use silo_program::{DataFiles, FileFault, Output, WholeFiles, WritableText};
 use std::alloc::Global;
 use std::io::Write;
 use std::random::RandomSource;
@@ -21,7 +21,12 @@ impl WholeFiles for EndlessFile {
         Err(FileFault::TooMuch)
     }
 
-    fn write_whole(&mut self, _alloc: Global, _path: &str, _bytes: &[u8]) -> Result<(), FileFault> {
+    fn write_whole<T: WritableText>(
+        &mut self,
+        _alloc: Global,
+        _path: &str,
+        _text: &T,
+    ) -> Result<(), FileFault> {
         Err(FileFault::Failed)
     }
 }

@@ -4,7 +4,7 @@ ghost use Rattle.std.specs.Prelude.{◌≡◌, [], None};
 
 use crate::runs::{Left, left_by};
 use log_host::{Did, Fuse, HostFault, LogFiles, LogHost, MemoryLog, OpenFault};
-use silo_program::{DataFiles, FileFault, Output, WholeFiles};
+use silo_program::{DataFiles, FileFault, Output, WholeFiles, WritableText};
 use std::alloc::Global;
 use std::io::Write;
 use std::random::RandomSource;
@@ -23,7 +23,12 @@ impl WholeFiles for Folder {
         Err(FileFault::Failed)
     }
 
-    fn write_whole(&mut self, _alloc: Global, _path: &str, _bytes: &[u8]) -> Result<(), FileFault> {
+    fn write_whole<T: WritableText>(
+        &mut self,
+        _alloc: Global,
+        _path: &str,
+        _text: &T,
+    ) -> Result<(), FileFault> {
         Err(FileFault::Failed)
     }
 }

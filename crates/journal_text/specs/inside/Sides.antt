@@ -10,7 +10,11 @@ use Rattle.journal_text.specs.Text.{kind_line, tenant_line, row_line, start_line
 use Rattle.journal_text.specs.declared.line.Line.{Line}
 use Rattle.journal_text.specs.declared.line.Line.TheVariants as line
 
--- the first lines, the ages of kinds, the tenants, and the steps
+-- the first lines, the ages of kinds, and the tenants
+abbrev pub lines_at_start : ℕ → ℕ → Ages → Table → List Line
+lines_at_start kinds age ages tenants = start_lines written kinds age ++ (map kind_line ages ++ map tenant_line tenants)
+
+-- the same, and the steps
 abbrev pub lines_before : ℕ → ℕ → Ages → Table → List Step → List Line
 lines_before kinds age ages tenants steps =
     start_lines written kinds age ++ (map kind_line ages ++ map tenant_line tenants ++ map line.Step steps)
