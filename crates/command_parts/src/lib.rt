@@ -22,5 +22,6 @@ pub use failure::{
 pub use files::{DataFiles, FileFault, MemoryFile, WholeFiles};
 pub use first_journal::keep_first;
 pub use host_files::HostFiles;
+pub use host_writing::WritableText;
 pub use journals::keep_journal;
 pub use start::{Start, new_silo};

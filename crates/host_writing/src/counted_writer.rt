@@ -42,7 +42,7 @@ impl<W: Write> Write for CountedWriter<W> {
     }
 }
 
-/// Writes the text where there is room for so many bytes, and answers how many it has.
+/// Writes the text where there is room for that many bytes, and answers how many it has.
 ///
 /// # Errors
 ///

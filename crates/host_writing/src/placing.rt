@@ -52,8 +52,8 @@ fn make_file<R: Files>(files: &R, path: &str) -> io::Result<R::File> {
     options.open(files, path)
 }
 
-/// Writes a new file, which may have so many bytes, gives it the rights of the older one, if there is one, waits until it is on the
-/// disk, and closes it. Answers how many bytes it got.
+/// Writes a new file, which may have that many bytes, gives it the rights of the older one, if there is one, waits until it is on the
+/// disk, and closes it. Answers how many bytes it has.
 fn fill_file<F: OpenFile + Write + Drop, T: WritableText>(
     alloc: Global,
     mut file: F,

@@ -71,6 +71,7 @@ pub fn write_journal<S: GrainStorage, L: GrainLogic>(
     // What is recorded of each tenant is what the tenant's machine does, under the silo's logic.
     ensures no_difference { (tenant : List ℕ) → IsFirstDifference L.logic (journal_of kinds silo.now) tenant None }
 {
+    let _steps = silo.journal();
     let rows = silo.rows(alloc)?;
     let parts = parts_of(silo, kinds, rows.as_slice());
     journal_of_parts(alloc, parts)

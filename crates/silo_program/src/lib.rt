@@ -15,7 +15,7 @@ mod starting;
 
 pub use command_parts::{
     Cause, DataFiles, End, FileFault, HostFiles, MemoryFile, ProgramFault, WholeFiles,
-    refuse_words, tell,
+    WritableText, refuse_words, tell,
 };
 pub use line_text::{Input, Output};
 pub use program::{answer, run_program};
