@@ -1,14 +1,10 @@
 -- Two writes to one path: of the journal of no step, and then of a silo's.
 use Rattle.idle_collector.specs.Ages.{Ages}
-use Rattle.std.proofs.Common.{Err, List, None, Ok, Option, Result, Some, [], ap, refl, subst, sym, ℕ, ◌∙◌, ◌≡◌}
+use Rattle.std.proofs.Common.{Err, List, None, Ok, Option, Result, Some, [], ap, refl, sym, ℕ, ◌∙◌, ◌≡◌}
 use Rattle.command_parts.specs.Files.{FileClaims, claims}
 use Rattle.silo_core.specs.History.{History}
 use Rattle.command_parts.specs.Kept.{KeepsJournal, KeepsSecond, MayFailAgain, MayFailAt, WritesFirst, empty_journal}
-use Rattle.std.specs.Prelude.{All, IfOk, IfSome, OnOk, Vec}
-use Rattle.std.specs.declared.alloc.Global.{Global}
-use Rattle.journal_text.specs.JournalAnswers.{IsJournalText}
-use Rattle.journal_text.specs.Rules.{AsksInRange, IsKinds}
-use Rattle.command_parts.specs.Journals.{ReadsAgain, silo_journal}
+use Rattle.std.specs.Prelude.{IfSome, OnOk}
 use Rattle.silo_model.specs.Opening.{opening}
 use Rattle.tenant_gate.specs.Table.{Table}
 use Rattle.std.specs.FinMap.{empty, entries, len-empty, len-entries}
@@ -27,14 +23,6 @@ entries-empty = nil_from_length _ (sym (len-entries (empty {X = Row} {R = grain_
 pub no_step : (version : Version) (tenants : Table) (age : ℕ) (ages : Ages) → journal_text (history_of version.number age ages tenants [] [] []) ≡ empty_journal (starting version tenants age ages)
 unfolding opening
 no_step version tenants age ages = ap (λ rows. journal_text (history_of version.number age ages tenants [] [] rows)) (sym entries-empty)
-
--- ---- the text that was made is read again
-
-pub made_again : {E : Type 0} (result : Result (Vec ℕ Global) E) (version : Version) (silo : History) → IfOk result (λ text. text.items ≡ journal_text (silo_journal version silo))
-    → (IsKinds version.number → All AsksInRange silo.journal → IfOk result (λ text. IsJournalText text.items (silo_journal version silo)))
-    → OnOk result (ReadsAgain version silo)
-made_again (Ok text) version silo is reads = λ named asked. subst (λ (bytes : List ℕ). IsJournalText bytes (silo_journal version silo)) is (reads named asked)
-made_again (Err why) version silo is reads = tt
 
 -- ---- what is so unless the first journal wasn't written
 

@@ -44,8 +44,9 @@ fn text_of<'a, S: GrainStorage, L: GrainLogic>(
 ) -> JournalText<'a>
     requires empty { OpensEmpty silo.now.setup }
     requires rows { rows.now ≡ entries silo.now.whole.rows }
-    ensures parts { history_of result.parts.kinds result.parts.age result.parts.ages.now result.parts.tenants.now result.parts.steps.now
-        (all_recorded result.parts.replies.now) result.parts.rows.now ≡ silo_journal (version_of L.logic kinds) silo.now }
+    ensures text { journal_text (history_of result.parts.kinds result.parts.age result.parts.ages.now result.parts.tenants.now
+        result.parts.steps.now (all_recorded result.parts.replies.now) result.parts.rows.now)
+        ≡ journal_text (silo_journal (version_of L.logic kinds) silo.now) }
     ensures is_journal { ReadsAgain (version_of L.logic kinds) silo.now }
     ensures no_difference { HasNoDifference (version_of L.logic kinds) silo.now }
 {

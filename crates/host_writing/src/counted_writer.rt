@@ -1,6 +1,6 @@
 //! A writer that counts bytes, and passes on no more than there is room for.
 
-ghost use Rattle.std.specs.Prelude.{◌≡◌, ◌+◌, ◌≤◌, IfOk, OnErr, OnOk};
+ghost use Rattle.std.specs.Prelude.{◌≡◌, ◌+◌, ◌≤◌, IfOk, OnErr};
 ghost use Rattle.std.specs.Io.{WritesAtMost};
 ghost use Rattle.std.specs.Io.KnownBytes.{Appends, WriteAppends};
 
@@ -42,19 +42,19 @@ impl<W: Write> Write for CountedWriter<W> {
     }
 }
 
-/// Writes the text where there is room for that many bytes, and answers how many it has.
+/// Writes the text where there is room for that many bytes, and answers how many it has. The writer comes back.
 ///
 /// # Errors
 ///
 /// A call of the writer failed, there isn't room, or memory was refused. Some of the text may have been written, but no more than
 /// there is room for.
-pub fn write_within<W: Write, T: WritableText>(
+pub fn write_within<W: Write + Drop, T: WritableText>(
     alloc: Global,
-    out: &mut W,
+    out: W,
     room: u64,
     text: &T,
-) -> io::Result<u64>
-    ensures { OnOk result (Appends (W.contents out.old) (W.contents out.new) (T.bytes text.now)) }
+) -> io::Result<(W, u64)>
+    ensures { IfOk result (λ done. Appends (W.contents out) (W.contents done.0) (T.bytes text.now)) }
 {
     let mut counted = CountedWriter {
         writer: out,
@@ -63,9 +63,9 @@ pub fn write_within<W: Write, T: WritableText>(
     };
     text.write_to(alloc, &mut counted)?;
     let CountedWriter {
-        writer, written, ..
+        writer,
+        written,
+        ..
     } = counted;
-    // No effect at run time. The proof reads what `out` has from this use of it.
-    let _ = &*writer;
-    Ok(written)
+    Ok((writer, written))
 }

@@ -56,12 +56,12 @@ fn make_file<R: Files>(files: &R, path: &str) -> io::Result<R::File> {
 /// disk, and closes it. Answers how many bytes it has.
 fn fill_file<F: OpenFile + Write + Drop, T: WritableText>(
     alloc: Global,
-    mut file: F,
+    file: F,
     most: u64,
     older: Option<&Metadata>,
     text: &T,
 ) -> io::Result<u64> {
-    let written = write_within(alloc, &mut file, most, text)?;
+    let (file, written) = write_within(alloc, file, most, text)?;
     if let Some(older) = older {
         let made = OpenFile::metadata(&file)?;
         let mode = mode_kept(older.mode(), made.gid() == older.gid());

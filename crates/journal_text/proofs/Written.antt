@@ -36,9 +36,9 @@ module _ {A : Type 0} (F : List A → List ℕ) (one : A → List ℕ) (before :
   -- the next element's text is gathered, and perhaps passed on
   pub owes_next : (a b : Option (List ℕ)) (gathered more kept : List ℕ) (x : A) → ((y : A) (ys : List A) → F (y ∷ ys) ≡ one y ++ F ys) → i < length xs → x ≡ get_or xs i x → Owes before (append_known a gathered) (F (drop i xs)) (F xs) → more ≡ gathered ++ one x → Keeps (append_known a more) (append_known b kept) → Owes before (append_known b kept) (F (drop (i + 1) xs)) (F xs)
   owes_next a b gathered more kept x each within is p e q =
-    let rest = drop (i + 1) xs in
-    let next : F (drop i xs) ≡ one x ++ F rest = at_drop_more F xs i x within ∙ ap (λ y. F (y ∷ rest)) (sym is) ∙ each x rest in
-    owes_less before a b gathered more kept (one x) (F rest) (F xs) (subst (λ l. Owes before (append_known a gathered) l (F xs)) next p) e q
+      let rest = drop (i + 1) xs in
+      let next : F (drop i xs) ≡ one x ++ F rest = at_drop_more F xs i x within ∙ ap (λ y. F (y ∷ rest)) (sym is) ∙ each x rest in
+      owes_less before a b gathered more kept (one x) (F rest) (F xs) (subst (λ l. Owes before (append_known a gathered) l (F xs)) next p) e q
 
   pub owes_end : (now : Option (List ℕ)) → F [] ≡ [] → length xs ≤ i → Owes before now (F (drop i xs)) (F xs) → Appends before now (F xs)
   owes_end now none all p = owes_nothing before now (F xs) (subst (λ l. Owes before now l (F xs)) (at_drop_all F xs i all ∙ none) p)
