@@ -23,6 +23,7 @@ use std::alloc::Global;
 use std::io::{self, Write};
 
 /// A journal's parts, as a text.
+#[derive(Clone, Copy)]
 struct JournalText<'a> {
     parts: JournalParts<'a>,
 }
